@@ -1,0 +1,6 @@
+pub mod Digits
+pub mod Accepts
+pub mod Axis
+pub mod Paints
+pub mod Counts
+pub mod Prepared

@@ -1,0 +1,8 @@
+//! What pixels are painted with.
+
+/// The source of a painted pixel: one value everywhere, or the bitmap itself.
+#[derive(Clone, Copy, PartialEq, Eq, Debug)]
+pub enum Ink {
+    Value(u8),
+    Itself,
+}
