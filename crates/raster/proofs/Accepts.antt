@@ -1,10 +1,14 @@
 -- When a call of a bitmap is refused, and what it answers and leaves then and otherwise.
 use mathlib.Core.Path.{_≡_, refl, sym, ap, subst, _∙_}
 use mathlib.Core.Bool.{Bool, true, false, cond, not}
+use mathlib.Core.Logic.{⊎-elim}
 use Prim.Native.Nat.{ℕ, _^_, _≤_, _<_}
 use lib.Dec.{ltb, leb}
-use lib.IntN.{ℤ, pos}
-use Rattle.std.proofs.shelf.Tests.{le-leb, lt-leb, lt-ltb, le-ltb}
+use lib.IntN.{ℤ, pos, natAbs}
+use native.Mathlib.Omega.{arith}
+use Rattle.std.proofs.shelf.Signed.{ints}
+use Rattle.std.proofs.shelf.Tests.{cases-bool, leb-false}
+use Rattle.std.proofs.shelf.Ways.{tells}
 use Rattle.std.specs.declared.option.Option.{Option}
 use Rattle.std.specs.declared.option.Option.the-variants.{Some, None}
 use Rattle.std.specs.declared.result.Result.{Result}
@@ -83,3 +87,24 @@ module _ (p : Picture) (call : Bitmap-call) where
   pub rows-accepted : bitmap-fault (sizes p) call ≡ None → (b : ℕ) → row-concerned p call b ≡ any-below (λ a. concerns p call a b) (p .width)
   unfolding row-concerned
   rows-accepted e b = rw e refl
+
+-- from what a check of the place answers
+
+pub some-none : {F : Type 0} {f : F} → _≡_ {A = Option F} (Some f) None → ⊥
+some-none h = let z : _≡_ {A = ℕ} 0 1 = cc in omega arith
+
+pub unless-err : {A F : Type 0} (o : Option F) (a : A) (f : F) → _≡_ {A = Result A F} (Err f) (unless o a) → o ≡ Some f
+unless-err (Some g) a f e = cc
+unless-err None a f e = absurd (let z : _≡_ {A = ℕ} 0 1 = cc in omega arith)
+
+pub unless-ok : {A F : Type 0} (o : Option F) (a b : A) → _≡_ {A = Result A F} (Ok b) (unless o a) → (o ≡ None) × (b ≡ a)
+unless-ok (Some g) a b e = absurd (let z : _≡_ {A = ℕ} 0 1 = cc in omega arith)
+unless-ok None a b e = (refl, cc)
+
+module _ (s : Size) (x y : ℤ) where
+  pub read-within : bitmap-fault s (read-at x y) ≡ None → inside s x y ≡ true
+  unfolding bitmap-fault
+  read-within e = ⊎-elim (λ (t : inside s x y ≡ true). t) (λ (t : inside s x y ≡ false). absurd (some-none (sym (read-outside s x y t) ∙ e))) (cases-bool (inside s x y))
+
+  pub place-within : inside s x y ≡ true → (natAbs x < s .width) × (natAbs y < s .height)
+  place-within e = (grind (arith, ints, tells), grind (arith, ints, tells))

@@ -16,11 +16,11 @@ use Rattle.raster.specs.Calls.{any-below}
 use Rattle.raster.specs.Blits.{between, spans, opposite, inked, performed}
 use Rattle.raster.specs.declared.span.Span.{Span}
 use Rattle.raster.specs.declared.blit.Blit.{Blit}
+use Rattle.raster.proofs.Digits.{total-alike}
 use Rattle.raster.proofs.Paints.{painted-same}
 
-pub total-same : (f g : ℕ → ℕ) → ((k : ℕ) → f k ≡ g k) → (n : ℕ) → total f n ≡ total g n
-total-same f g e zero = refl
-total-same f g e (suc n) = rw (total-same f g e n, e n) refl
+total-same : (f g : ℕ → ℕ) → ((k : ℕ) → f k ≡ g k) → (n : ℕ) → total f n ≡ total g n
+total-same f g e n = total-alike f g n (λ k _. e k)
 
 total-zero : (n : ℕ) → total (λ _. 0) n ≡ 0
 total-zero zero = refl

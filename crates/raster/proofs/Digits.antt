@@ -12,7 +12,7 @@ use native.Mathlib.Numerals.{add-one}
 use lib.ListN.{getD}
 use Rattle.std.proofs.shelf.Bits.{pow-pos, pow-add, mod-below, shr-split, mul-le, div-mul-add, mod-mul-add, shr-shr, mod-low, shr-high, shl-shr, shl-whole}
 use Rattle.std.proofs.shelf.Tests.{and-parts, eqb-true, cases-lt, cases-order}
-use Rattle.raster.specs.Rules.{total, bit}
+use Rattle.raster.specs.Rules.{total, bit, result, combined}
 
 abbrev pub all-below : (ℕ → Bool) → ℕ → Bool
 all-below f zero = true
@@ -32,6 +32,11 @@ table-rule rows t r p hr hp =
     eqb-true _ _
     (at-below (λ p. eqb (getD (getD rows r []) p 0) (bit r (3 - p))) 4
     (at-below (λ r. all-below (λ p. eqb (getD (getD rows r []) p 0) (bit r (3 - p))) 4) 16 t r hr) p hp)
+
+-- sums that agree below n
+pub total-alike : (f g : ℕ → ℕ) (n : ℕ) → ((k : ℕ) → k < n → f k ≡ g k) → total f n ≡ total g n
+total-alike f g zero e = refl
+total-alike f g (suc n) e = rw (total-alike f g n (λ k l. e k (omega arith)), e n (omega arith)) refl
 
 pub bit-below : (v j : ℕ) → bit v j < 2
 bit-below v j = mod-below (v / 2 ^ j) 2 (omega arith)
@@ -72,3 +77,13 @@ total-more f h j all r l inv e =
     let small : total (λ k. f k * 2 ^ k) (suc j) < 2 ^ suc j = total-below f h (suc j) in
     let most : 2 ^ suc j ≤ 2 ^ 8 = pow-mono {j = 8} (omega arith) in
     (rw add-one sum, omega arith)
+
+-- what a rule makes of two pixels
+
+pub combined-below : (depth rule s d : ℕ) → combined depth rule s d < 2 ^ depth
+unfolding combined
+combined-below depth rule s d = total-below (λ j. result rule (bit s j) (bit d j)) (λ j. bit-below rule _) depth
+
+pub combined-bit : (depth rule s d j : ℕ) → j < depth → bit (combined depth rule s d) j ≡ result rule (bit s j) (bit d j)
+unfolding combined
+combined-bit depth rule s d j l = total-bit (λ j. result rule (bit s j) (bit d j)) (λ j. bit-below rule _) depth j l

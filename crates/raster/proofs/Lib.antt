@@ -4,3 +4,4 @@ pub mod Axis
 pub mod Paints
 pub mod Counts
 pub mod Prepared
+pub mod Called

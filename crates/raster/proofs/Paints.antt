@@ -212,3 +212,8 @@ module _ (b : Blit) (p : Picture) where
   rows-more q q′ j k h ek e e′ =
       e′ ∙ ap (row-painted b (b .rows .first + k) (b .rows .source + k)) e
       ∙ ap (λ n. row-painted b (b .rows .first + n) (b .rows .source + n) (rows-so-far b j p)) ek ∙ rows-turn j h
+
+-- a value below a bound, or 0
+pub cond-less : (t : Bool) (a b : ℕ) → a < b → cond t a 0 < b
+cond-less true a b l = l
+cond-less false a b l = omega arith

@@ -9,19 +9,13 @@ ghost use Rattle.raster.specs.Blits.{Prepares};
 ghost use Rattle.raster.specs.declared.refusal.Refusal.the-variants.{RuleAboveFifteen};
 use crate::fault::Fault;
 use crate::ink::Ink;
-use crate::ink::InkDebug;
-use crate::ink::InkPartialEq;
 use crate::refusal::Refusal;
 use crate::rule::Rule;
-use crate::rule::RuleDebug;
-use crate::rule::RulePartialEq;
 use crate::size::Size;
 use crate::span::Span;
-use crate::span::SpanDebug;
-use crate::span::SpanPartialEq;
 
 /// What is left to paint of a call that is not refused.
-#[derive(Clone, Copy, PartialEq, Eq, Debug)]
+#[derive(Clone, Copy)]
 pub struct Blit {
     pub rule: Rule,
     pub ink: Ink,

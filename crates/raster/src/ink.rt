@@ -1,7 +1,7 @@
 //! What pixels are painted with.
 
 /// The source of a painted pixel: one value everywhere, or the bitmap itself.
-#[derive(Clone, Copy, PartialEq, Eq, Debug)]
+#[derive(Clone, Copy)]
 pub enum Ink {
     Value(u8),
     Itself,

@@ -25,7 +25,7 @@ const RESULTS: [[u8; 4]; 16] = [
 ];
 
 /// One of the sixteen rules.
-#[derive(Clone, Copy, PartialEq, Eq, Debug)]
+#[derive(Clone, Copy)]
 pub struct Rule {
     number: u8,
     ghost listed: { number < 16 },

@@ -6,7 +6,7 @@ ghost use Rattle.raster.specs.Blits.{turn};
 ghost use Rattle.raster.specs.Clip.{Clipped};
 
 /// The destination coordinates concerned are the `len` from `first`; their source coordinates are the `len` from `source`.
-#[derive(Clone, Copy, PartialEq, Eq, Debug)]
+#[derive(Clone, Copy)]
 pub struct Span {
     pub first: u16,
     pub source: u16,

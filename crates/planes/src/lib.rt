@@ -1,0 +1,9 @@
+//! Planes: a bitmap in a list of 32-bit words, one plane for each bit of a pixel.
+mod calls;
+mod make;
+mod paint;
+mod planes;
+mod words;
+
+pub use calls::PlanesBitmap;
+pub use planes::Planes;
