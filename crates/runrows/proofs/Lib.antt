@@ -1,0 +1,5 @@
+pub mod Ahead
+pub mod Spell
+pub mod Rows
+pub mod Blend
+pub mod Keep
