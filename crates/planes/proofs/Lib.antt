@@ -1,3 +1,4 @@
 pub mod Store
 pub mod Refill
 pub mod Keep
+pub mod Lawful

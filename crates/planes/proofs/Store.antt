@@ -19,7 +19,7 @@ use Rattle.raster.specs.declared.size.Size.{Size}
 use Rattle.planes.specs.Layout.{stride, word-of, bit-of, pixel, laid-out, Carried, Unused, Kept}
 use Rattle.planes.specs.Stored.{with-bit, stored}
 use Rattle.raster.proofs.Paints.{same-picture, cond-less}
-use Rattle.raster.proofs.Digits.{bit-below, bit-under, total-below, total-alike, total-more}
+use Rattle.raster.proofs.Digits.{bit-below, bit-under, total-below, total-alike, total-more, bits-all}
 
 -- one word
 
@@ -85,11 +85,11 @@ flipped n k b hk hb =
 
 -- the words of pixels
 
-by-rows : (w h j x y : ℕ) → word-of w h j x y ≡ (j * h + y) * stride w + x / 32
+pub by-rows : (w h j x y : ℕ) → word-of w h j x y ≡ (j * h + y) * stride w + x / 32
 unfolding word-of
 by-rows w h j x y = ap (λ n. n + x / 32) (sym (add-mul (j * h) y (stride w)))
 
-column-below : (w x : ℕ) → x < w → x / 32 < stride w
+pub column-below : (w x : ℕ) → x < w → x / 32 < stride w
 column-below w x l = div-below x 32 (stride w) (omega arith) (omega arith)
 
 pub word-below : (w h depth j x y : ℕ) → j < depth → x < w → y < h → word-of w h j x y < depth * h * stride w
@@ -160,13 +160,6 @@ module _ (words : List ℕ) (w h x y v : ℕ) where
         (cases-lt j n)
 
 -- pixels
-
--- a number is the sum of its bits
-bits-all : (v n : ℕ) → total (λ j. bit v j * 2 ^ j) n ≡ v % 2 ^ n
-bits-all v zero = omega arith
-bits-all v (suc n) =
-    let e : suc n ≡ 1 + n = omega arith in
-    rw (bits-all v n) (add-comm (v % 2 ^ n) (bit v n * 2 ^ n) ∙ sym (ap (λ m. v % 2 ^ m) e ∙ mod-pow-add v 1 n))
 
 pub pixel-below : (words : List ℕ) (w h depth x y : ℕ) → pixel words w h depth x y < 2 ^ depth
 unfolding pixel

@@ -19,7 +19,7 @@ use Rattle.raster.specs.declared.blit.Blit.{Blit}
 use Rattle.raster.proofs.Digits.{total-alike}
 use Rattle.raster.proofs.Paints.{painted-same}
 
-total-same : (f g : ℕ → ℕ) → ((k : ℕ) → f k ≡ g k) → (n : ℕ) → total f n ≡ total g n
+pub total-same : (f g : ℕ → ℕ) → ((k : ℕ) → f k ≡ g k) → (n : ℕ) → total f n ≡ total g n
 total-same f g e n = total-alike f g n (λ k _. e k)
 
 total-zero : (n : ℕ) → total (λ _. 0) n ≡ 0

@@ -10,7 +10,7 @@ use lib.Dec.{eqb}
 use lib.Pow.{pow-mono}
 use native.Mathlib.Numerals.{add-one}
 use lib.ListN.{getD}
-use Rattle.std.proofs.shelf.Bits.{pow-pos, pow-add, mod-below, shr-split, mul-le, div-mul-add, mod-mul-add, shr-shr, mod-low, shr-high, shl-shr, shl-whole}
+use Rattle.std.proofs.shelf.Bits.{mod-pow-add, pow-pos, pow-add, mod-below, shr-split, mul-le, div-mul-add, mod-mul-add, shr-shr, mod-low, shr-high, shl-shr, shl-whole}
 use Rattle.std.proofs.shelf.Tests.{and-parts, eqb-true, cases-lt, cases-order}
 use Rattle.raster.specs.Rules.{total, bit, result, combined}
 
@@ -77,6 +77,13 @@ total-more f h j all r l inv e =
     let small : total (λ k. f k * 2 ^ k) (suc j) < 2 ^ suc j = total-below f h (suc j) in
     let most : 2 ^ suc j ≤ 2 ^ 8 = pow-mono {j = 8} (omega arith) in
     (rw add-one sum, omega arith)
+
+-- a number is the sum of its bits
+pub bits-all : (v n : ℕ) → total (λ j. bit v j * 2 ^ j) n ≡ v % 2 ^ n
+bits-all v zero = omega arith
+bits-all v (suc n) =
+    let e : suc n ≡ 1 + n = omega arith in
+    rw (bits-all v n) (add-comm (v % 2 ^ n) (bit v n * 2 ^ n) ∙ sym (ap (λ m. v % 2 ^ m) e ∙ mod-pow-add v 1 n))
 
 -- what a rule makes of two pixels
 

@@ -5,3 +5,4 @@ pub mod Paints
 pub mod Counts
 pub mod Prepared
 pub mod Called
+pub mod Lawful

@@ -5,3 +5,4 @@ pub mod Blt
 pub mod Calls
 pub mod Blits
 pub mod Clip
+pub mod Laws

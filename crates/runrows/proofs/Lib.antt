@@ -3,3 +3,4 @@ pub mod Spell
 pub mod Rows
 pub mod Blend
 pub mod Keep
+pub mod Lawful

@@ -23,7 +23,7 @@ total-first : (f : ℕ → ℕ) (n : ℕ) → total f (suc n) ≡ f 0 + total (�
 total-first f zero = omega arith
 total-first f (suc n) = omega (arith, total-first f n)
 
-total-grows : (f : ℕ → ℕ) (k n : ℕ) → k ≤ n → total f k ≤ total f n
+pub total-grows : (f : ℕ → ℕ) (k n : ℕ) → k ≤ n → total f k ≤ total f n
 total-grows f k zero l = let e : k ≡ 0 = omega arith in rw e (omega arith)
 total-grows f k (suc n) l =
     ⊎-elim (λ (h : k < suc n). omega (arith, total-grows f k n (omega arith))) (λ (h : suc n ≤ k). let e : k ≡ suc n = omega arith in rw e (omega arith)) (cases-lt k (suc n))
@@ -51,7 +51,7 @@ run-reads depth (e ∷ es) (suc k) x l some lo hi =
     ∙ run-reads depth es k (x - e / 16) (omega arith) (λ i m. some (suc i) (omega arith)) (omega arith) (omega arith)
 
 -- lists that agree below a place
-starts-alike : (es fs : List ℕ) (n : ℕ) → ((k : ℕ) → k < n → getD fs k 0 ≡ getD es k 0) → (k : ℕ) → k ≤ n → starts fs k ≡ starts es k
+pub starts-alike : (es fs : List ℕ) (n : ℕ) → ((k : ℕ) → k < n → getD fs k 0 ≡ getD es k 0) → (k : ℕ) → k ≤ n → starts fs k ≡ starts es k
 starts-alike es fs n e k l = total-alike (run-len fs) (run-len es) k (λ i m. ap (λ v. v / 16) (e i (omega arith)))
 
 pub runs-kept : (depth : ℕ) (es fs : List ℕ) (n w : ℕ) → length fs ≡ length es → ((k : ℕ) → k < n → getD fs k 0 ≡ getD es k 0) → Runs depth es n w → Runs depth fs n w
