@@ -85,6 +85,12 @@ bits-all v (suc n) =
     let e : suc n ≡ 1 + n = omega arith in
     rw (bits-all v n) (add-comm (v % 2 ^ n) (bit v n * 2 ^ n) ∙ sym (ap (λ m. v % 2 ^ m) e ∙ mod-pow-add v 1 n))
 
+-- what a rule makes of two bits, by one test
+pub of-two-bits : (rule : ℕ) (pick : ℕ → ℕ → ℕ) → all-below (λ s. all-below (λ d. eqb (result rule s d) (pick s d)) 2) 2 ≡ true
+    → (s d : ℕ) → s < 2 → d < 2 → result rule s d ≡ pick s d
+of-two-bits rule pick t s d ls ld =
+    eqb-true _ _ (at-below (λ d. eqb (result rule s d) (pick s d)) 2 (at-below (λ s. all-below (λ d. eqb (result rule s d) (pick s d)) 2) 2 t s ls) d ld)
+
 -- what a rule makes of two pixels
 
 pub combined-below : (depth rule s d : ℕ) → combined depth rule s d < 2 ^ depth

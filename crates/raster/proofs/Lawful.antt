@@ -22,19 +22,13 @@ use Rattle.raster.specs.declared.size.Size.{Size}
 use Rattle.raster.proofs.Accepts.{place-within, answer-refused, after-refused}
 use Rattle.raster.proofs.Called.{write-found}
 use Rattle.raster.proofs.Counts.{total-same}
-use Rattle.raster.proofs.Digits.{all-below, at-below, total-alike, bit-below, bits-all, combined-below, combined-bit}
+use Rattle.raster.proofs.Digits.{all-below, at-below, of-two-bits, total-alike, bit-below, bits-all, combined-below, combined-bit}
 use Rattle.raster.proofs.Paints.{painted-same, painted-at, painted-sizes}
 
 -- rules
 
 rule-is-sum : (rule : ℕ) → rule < 16 → 8 * result rule 0 0 + 4 * result rule 0 1 + 2 * result rule 1 0 + result rule 1 1 ≡ rule
 rule-is-sum rule l = eqb-true _ _ (at-below (λ r. eqb (8 * result r 0 0 + 4 * result r 0 1 + 2 * result r 1 0 + result r 1 1) r) 16 refl rule l)
-
--- what a rule makes of two bits, by one test
-of-two-bits : (rule : ℕ) (pick : ℕ → ℕ → ℕ) → all-below (λ s. all-below (λ d. eqb (result rule s d) (pick s d)) 2) 2 ≡ true
-    → (s d : ℕ) → s < 2 → d < 2 → result rule s d ≡ pick s d
-of-two-bits rule pick t s d ls ld =
-    eqb-true _ _ (at-below (λ d. eqb (result rule s d) (pick s d)) 2 (at-below (λ s. all-below (λ d. eqb (result rule s d) (pick s d)) 2) 2 t s ls) d ld)
 
 -- a rule whose result bit is always that of one of the two pixels
 one-of : (rule depth s d v : ℕ) → ((j : ℕ) → result rule (bit s j) (bit d j) ≡ bit v j) → v < 2 ^ depth → combined depth rule s d ≡ v
