@@ -1,0 +1,87 @@
+-- The screen, from call to call: from a new desk on it is what the screen rule shows.
+use mathlib.Core.Path.{_≡_, refl, sym, _∙_, ap, ap₂, subst}
+use mathlib.Core.Bool.{Bool, true, false, cond, _&&_, _||_}
+use mathlib.Core.List.{List, [], _∷_}
+use Prim.Native.Nat.{ℕ}
+use native.Mathlib.Omega.{arith}
+use lib.IntN.{ℤ, pos}
+use Rattle.std.proofs.shelf.Signed.{ints}
+use Rattle.std.proofs.shelf.Ways.{tells}
+use Rattle.std.specs.declared.option.Option.{Option}
+use Rattle.std.specs.declared.option.Option.the-variants.{Some, None}
+use Rattle.std.proofs.shelf.Tests.{and-left, or-parts}
+use Rattle.raster.specs.Picture.{Picture, sizes, painted}
+use Rattle.raster.specs.Blt.{inside}
+use Rattle.raster.specs.declared.size.Size.{Size}
+use Rattle.raster.proofs.Paints.{same-picture, painted-sizes, painted-none}
+use Rattle.paper.specs.Layers.{Desk, Layer, or-else, covers, covered, topmost, pixel-of, shown, screen-of, screen-after}
+use Rattle.paper.specs.Slots.{hidden-count}
+use Rattle.paper.specs.Run.{State, new-state, Becomes}
+use Rattle.paper.proofs.Pictures.{Clean}
+
+pub screen-clean : (d : Desk) → Clean (screen-of d)
+unfolding screen-of
+screen-clean d x y e = ap (λ b. cond b (shown (d .layers) (pos x) (pos y)) 0) e
+
+-- Where no layer covers, there is no topmost one.
+pub none-topmost : (ls : List Layer) (x y : ℤ) → covered ls x y ≡ false → topmost ls x y ≡ None
+none-topmost [] x y e = refl
+none-topmost (l ∷ ls) x y e =
+    let q = or-parts (covers l x y) (covered ls x y) e in
+    ap₂ (λ o b. or-else o (cond b (Some l) None)) (none-topmost ls x y (q .1)) (q .0)
+
+pub none-shown : (ls : List Layer) (x y : ℤ) → covered ls x y ≡ false → shown ls x y ≡ 0
+none-shown ls x y e = ap (λ o. pixel-of o x y) (none-topmost ls x y e)
+
+pub screen-sizes : (s : Picture) (d e : Desk) → sizes (screen-after s d e) ≡ sizes s
+unfolding screen-after
+screen-sizes s d e = painted-sizes s _ _
+
+-- one place, on the screen or not, covered before or not, and after or not
+one-place : (on before after : Bool) (was shows : ℕ) → (before ≡ false → was ≡ 0) → (after ≡ false → shows ≡ 0)
+    → cond (on && (before || after)) shows (cond on was 0) ≡ cond on shows 0
+one-place false before after was shows p q = refl
+one-place true true after was shows p q = refl
+one-place true false true was shows p q = refl
+one-place true false false was shows p q = p refl ∙ sym (q refl)
+
+-- A screen that shows the layers before a call shows those after it.
+pub screen-follows : (d e : Desk) → e .size ≡ d .size → screen-after (screen-of d) d e ≡ screen-of e
+unfolding screen-of screen-after painted
+screen-follows d e same =
+    same-picture (screen-after (screen-of d) d e) (screen-of e)
+    (ap (λ s. s .width) (sym same)) (ap (λ s. s .height) (sym same)) (ap (λ s. s .depth) (sym same))
+    (λ x y.
+    one-place (inside (d .size) (pos x) (pos y)) (covered (d .layers) (pos x) (pos y)) (covered (e .layers) (pos x) (pos y))
+    (shown (d .layers) (pos x) (pos y)) (shown (e .layers) (pos x) (pos y)) (none-shown (d .layers) (pos x) (pos y)) (none-shown (e .layers) (pos x) (pos y))
+    ∙ ap (λ s. cond (inside s (pos x) (pos y)) (shown (e .layers) (pos x) (pos y)) 0) (sym same))
+
+-- The screen is what the screen rule shows, and as many slots are in use as patches are hidden.
+pub record True-to-paper (s : State) : Type 0 where
+  pub screen : s .screen ≡ screen-of (s .paper)
+  pub used : s .used ≡ hidden-count (s .paper)
+
+pub new-true : (size : Size) (slots : ℕ) → True-to-paper (new-state size slots)
+unfolding screen-of hidden-count
+new-true size slots = record { screen = same-picture _ _ refl refl refl (λ x y. sym (zero-either (inside size (pos x) (pos y)))); used = refl }
+  where
+    zero-either : (b : Bool) → cond {A = ℕ} b 0 0 ≡ 0
+    zero-either true = refl
+    zero-either false = refl
+
+-- That lasts from state to state.
+pub stays-true : {s s′ : State} {d : Desk} → True-to-paper s → Becomes s d s′ → d .size ≡ s .paper .size → True-to-paper s′
+stays-true {s} {s′} {d} t b e = record {
+  screen =
+      b .screen ∙ ap (λ p. screen-after p (s .paper) (s′ .paper)) (t .screen)
+      ∙ screen-follows (s .paper) (s′ .paper) (ap (λ p. p .size) (b .paper) ∙ e);
+  used = b .used;
+}
+
+-- A screen of no size stays as it is.
+pub empty-screen : (s : Picture) (d e : Desk) → s .width ≡ 0 → screen-after s d e ≡ s
+unfolding screen-after
+empty-screen s d e w = painted-none s _ _ (λ x y. and-left (inside (sizes s) (pos x) (pos y)) _ (none-inside s x y w))
+  where
+    none-inside : (s : Picture) (x y : ℕ) → s .width ≡ 0 → inside (sizes s) (pos x) (pos y) ≡ false
+    none-inside s x y w = grind (arith, ints, tells)
