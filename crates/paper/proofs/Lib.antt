@@ -5,3 +5,7 @@ pub mod Clean
 pub mod Screen
 pub mod Trace
 pub mod Runs
+pub mod Pane
+pub mod Houses
+pub mod Plays
+pub mod Apart

@@ -1,4 +1,5 @@
 //! The desk on paper: definitions that the desk's contracts cite, and laws of them.
+ghost use Rattle.paper.specs.Apart.{Layers-keep-apart};
 use raster::Fault;
 use raster::Refusal;
 
@@ -9,4 +10,11 @@ pub struct DeskFault {
     pub refusal: Refusal,
     pub client: u8,
     pub bitmap: Option<Fault>,
+}
+
+/// Layers keep apart, over every two runs on desks and in houses: specs/Apart.antt says how. Answers 0.
+pub fn layers_keep_apart() -> u8
+    ensures { λ _. ⌜ Layers-keep-apart ⌝ }
+{
+    0
 }
