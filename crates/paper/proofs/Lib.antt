@@ -9,3 +9,4 @@ pub mod Pane
 pub mod Houses
 pub mod Plays
 pub mod Apart
+pub mod Examples
