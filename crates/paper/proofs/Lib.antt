@@ -10,3 +10,6 @@ pub mod Houses
 pub mod Plays
 pub mod Apart
 pub mod Examples
+pub mod Order
+pub mod Hidden
+pub mod Outline

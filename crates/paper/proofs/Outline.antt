@@ -1,0 +1,105 @@
+-- What is hidden depends on the outlines of the layers alone, and never passes the number of slots.
+use mathlib.Core.Path.{_≡_, refl, sym, _∙_, ap, ap₂, subst, fun-ext}
+use mathlib.Core.Bool.{Bool, true, false, cond, not, _&&_, _||_}
+use mathlib.Core.List.{List, [], _∷_}
+use Prim.Native.Nat.{ℕ, zero, suc, _+_, _*_, _≤_, _<_}
+use native.Mathlib.Omega.{arith}
+use lib.Dec.{eqb, ltb}
+use lib.IntN.{ℤ, pos, _+ℤ_}
+use Rattle.std.specs.declared.option.Option.the-variants.{Some}
+use Rattle.std.proofs.shelf.Tests.{or-left, or-right}
+use Rattle.raster.specs.Picture.{Picture, sizes}
+use Rattle.raster.specs.Rules.{total}
+use Rattle.raster.specs.Blt.{in-rectangle, inside}
+use Rattle.raster.specs.Calls.{any-below}
+use Rattle.raster.specs.declared.size.Size.{Size}
+use Rattle.paper.specs.Layers.{Desk, Layer, covers, covered, pixels-of, without, paint, with-pixels, or-blank}
+use Rattle.paper.specs.Slots.{obscured, hidden, hidden-in, patches-along, patches-in, count-patches, hidden-count, slots-needed}
+use Rattle.paper.specs.Run.{Alike, none, more}
+
+-- ── Outlines ──
+
+-- Two layers agree but for their pixels.
+pub record Same-outline (l m : Layer) : Type 0 where
+  pub client : l .client ≡ m .client
+  pub x : l .x ≡ m .x
+  pub y : l .y ≡ m .y
+  pub width : l .pixels .width ≡ m .pixels .width
+  pub height : l .pixels .height ≡ m .pixels .height
+
+pub same-outline : (l : Layer) → Same-outline l l
+same-outline l = record { client = refl; x = refl; y = refl; width = refl; height = refl }
+
+pub covers-same : {l m : Layer} → Same-outline l m → (x y : ℤ) → covers l x y ≡ covers m x y
+covers-same s x y = λ i. in-rectangle (s .x i) (s .y i) (s .width i) (s .height i) x y
+
+pub covered-same : {ls ms : List Layer} → Alike Same-outline ls ms → (x y : ℤ) → covered ls x y ≡ covered ms x y
+covered-same none x y = refl
+covered-same (more s ss) x y = ap₂ _||_ (covers-same s x y) (covered-same ss x y)
+
+pub hidden-same : (screen : Size) {ls ms : List Layer} {l m : Layer} → Alike Same-outline ls ms → Same-outline l m → (i j : ℕ) → hidden screen ls l i j ≡ hidden screen ms m i j
+unfolding hidden
+hidden-same screen {ls} {ms} ss s i j =
+    let cov : covered ls ≡ covered ms = fun-ext (λ x. fun-ext (λ y. covered-same ss x y)) in
+    λ k. any-below (λ v. any-below (λ u.
+    (ltb (16 * i + u) (s .width k) && ltb (16 * j + v) (s .height k))
+    && not (inside screen (s .x k +ℤ pos (16 * i + u)) (s .y k +ℤ pos (16 * j + v)) && not (cov k (s .x k +ℤ pos (16 * i + u)) (s .y k +ℤ pos (16 * j + v))))) 16) 16
+
+pub hidden-in-same : (screen : Size) {ls ms : List Layer} → Alike Same-outline ls ms → (c i j : ℕ) → hidden-in screen ls c i j ≡ hidden-in screen ms c i j
+hidden-in-same screen none c i j = refl
+hidden-in-same screen (more s ss) c i j = λ k. cond (eqb (s .client k) c) (hidden-same screen ss s i j k) (hidden-in-same screen ss c i j k)
+
+count-same : (test : ℕ → ℕ → ℕ → Bool) {ls ms : List Layer} → Alike Same-outline ls ms → count-patches test ls ≡ count-patches test ms
+count-same test none = refl
+count-same test (more s ss) =
+    ap₂ _+_ (λ k. total (λ j. total (λ i. cond (test (s .client k) i j) 1 0) (patches-along (s .width k))) (patches-along (s .height k))) (count-same test ss)
+
+pub hidden-count-same : (d e : Desk) → d .size ≡ e .size → Alike Same-outline (d .layers) (e .layers) → hidden-count d ≡ hidden-count e
+unfolding hidden-count
+hidden-count-same d e s ss =
+    ap (λ z. count-patches (hidden-in z (d .layers)) (d .layers)) s
+    ∙ ap (λ t. count-patches t (d .layers)) (fun-ext (λ c. fun-ext (λ i. fun-ext (λ j. hidden-in-same (e .size) ss c i j))))
+    ∙ count-same (hidden-in (e .size) (e .layers)) ss
+
+-- Painting a layer with a picture of its size keeps all outlines.
+pub paint-outline : (depth c : ℕ) (p : Picture) (ls : List Layer) → sizes p ≡ sizes (or-blank depth (pixels-of c ls)) → Alike Same-outline (paint c p ls) ls
+paint-outline depth c p [] e = none
+paint-outline depth c p (l ∷ ls) e = go (paint-outline depth c p ls) (eqb (l .client) c) e
+  where
+    all-same : (ls : List Layer) → Alike Same-outline ls ls
+    all-same [] = none
+    all-same (l ∷ ls) = more (same-outline l) (all-same ls)
+
+    go : (sizes p ≡ sizes (or-blank depth (pixels-of c ls)) → Alike Same-outline (paint c p ls) ls) → (t : Bool) → sizes p ≡ sizes (or-blank depth (cond t (Some (l .pixels)) (pixels-of c ls)))
+        → Alike Same-outline (cond t (with-pixels l p ∷ ls) (l ∷ paint c p ls)) (l ∷ ls)
+    go ih true e = more (record { client = refl; x = refl; y = refl; width = ap (λ s. s .width) e; height = ap (λ s. s .height) e }) (all-same ls)
+    go ih false e = more (same-outline l) (ih e)
+
+-- ── More passes, more patches ──
+
+-- b passes where a does
+abbrev Implies : Bool → Bool → Type 0
+Implies a b = a ≡ true → b ≡ true
+
+total-mono : (f g : ℕ → ℕ) → ((k : ℕ) → f k ≤ g k) → (n : ℕ) → total f n ≤ total g n
+total-mono f g h zero = omega arith
+total-mono f g h (suc n) = omega (arith, total-mono f g h n, h n)
+
+one-mono : (a b : Bool) → Implies a b → cond a 1 0 ≤ cond b 1 0
+one-mono true b h = rw (h refl) (omega arith)
+one-mono false b h = omega arith
+
+patches-mono : (f g : ℕ → ℕ → Bool) (l : Layer) → ((i j : ℕ) → Implies (f i j) (g i j)) → patches-in f l ≤ patches-in g l
+patches-mono f g l h =
+    total-mono _ _ (λ j. total-mono _ _ (λ i. one-mono (f i j) (g i j) (h i j)) (patches-along (l .pixels .width))) (patches-along (l .pixels .height))
+
+count-mono : (f g : ℕ → ℕ → ℕ → Bool) → ((c i j : ℕ) → Implies (f c i j) (g c i j)) → (ls : List Layer) → count-patches f ls ≤ count-patches g ls
+count-mono f g h [] = omega arith
+count-mono f g h (l ∷ ls) = omega (arith, patches-mono (f (l .client)) (g (l .client)) l (h (l .client)), count-mono f g h ls)
+
+-- What is hidden after a call is among what it needs slots for.
+pub hidden-needed : (also : ℕ → Bool) (d e : Desk) → hidden-count e ≤ slots-needed also d e
+unfolding hidden-count slots-needed
+hidden-needed also d e =
+    count-mono (hidden-in (e .size) (e .layers)) _
+    (λ c i j h. or-right (hidden-in (d .size) (d .layers) c i j) _ (or-left (hidden-in (e .size) (e .layers) c i j) (also c) h)) (e .layers)
