@@ -8,11 +8,10 @@ use lib.IntN.{ℤ}
 use Rattle.std.specs.declared.option.Option.{Option}
 use Rattle.std.specs.declared.option.Option.the-variants.{Some, None}
 use Rattle.raster.specs.Picture.{Picture}
-use Rattle.raster.specs.Calls.{if-refused}
-use Rattle.paper.specs.declared.DeskFault.{DeskFault}
 use Rattle.paper.specs.Layers.{Desk, Layer, or-blank, pixels-of, pane, only, without, paint, place, with-pixels, at-corner}
-use Rattle.paper.specs.Desk.{Call, open-layer, close-layer, raise-layer, lower-layer, move-layer, fill-layer, scroll-layer, stamp-layer, read-layer, change, fault-of, after}
+use Rattle.paper.specs.Desk.{Call, open-layer, close-layer, raise-layer, lower-layer, move-layer, fill-layer, scroll-layer, stamp-layer, read-layer, change, after}
 use Rattle.paper.specs.Run.{Alike, none, more, Same-layer}
+use Rattle.paper.proofs.View.{after-either}
 use Rattle.paper.proofs.Pictures.{Clean, blank-clean, blt-clean, same-is}
 
 abbrev pub All-clean : List Layer → Type 0
@@ -80,11 +79,6 @@ clean-change d (scroll-layer c t) a = clean-paint c _ (d .layers) (blt-clean t _
 clean-change d (stamp-layer c t source) a = clean-paint c _ (d .layers) (blt-clean t _ (pane c d) (clean-pane (d .size .depth) c (d .layers) a)) a
 clean-change d (read-layer c x y) a = a
 
-clean-by : (d e : Desk) (f : Option DeskFault) → All-clean (d .layers) → All-clean (e .layers) → All-clean (if-refused f d e .layers)
-clean-by d e (Some f) a b = a
-clean-by d e None a b = b
-
 -- Every call leaves clean layers clean.
 pub clean-after : (d : Desk) (call : Call) → All-clean (d .layers) → All-clean (after d call .layers)
-unfolding after
-clean-after d call a = clean-by d (change d call) (fault-of d call) a (clean-change d call a)
+clean-after d call a = after-either (λ e. All-clean (e .layers)) d call a (λ _. clean-change d call a)

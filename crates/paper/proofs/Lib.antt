@@ -13,3 +13,4 @@ pub mod Examples
 pub mod Order
 pub mod Hidden
 pub mod Outline
+pub mod Laws

@@ -2,18 +2,20 @@
 use mathlib.Core.Path.{_≡_, refl, sym, _∙_, ap, ap₂, subst, fun-ext}
 use mathlib.Core.Bool.{Bool, true, false, cond, not, _&&_, _||_}
 use mathlib.Core.List.{List, [], _∷_}
+use mathlib.Core.Logic.{⊎-elim}
 use Prim.Native.Nat.{ℕ, zero, suc, _+_, _*_, _≤_, _<_}
 use native.Mathlib.Omega.{arith}
 use lib.Dec.{eqb, ltb}
 use lib.IntN.{ℤ, pos, _+ℤ_}
 use Rattle.std.specs.declared.option.Option.the-variants.{Some}
-use Rattle.std.proofs.shelf.Tests.{or-left, or-right}
+use Rattle.std.proofs.shelf.Tests.{or-left, or-right, or-cases, false≢true}
+use Rattle.std.proofs.shelf.Ways.{tells}
 use Rattle.raster.specs.Picture.{Picture, sizes}
 use Rattle.raster.specs.Rules.{total}
 use Rattle.raster.specs.Blt.{in-rectangle, inside}
 use Rattle.raster.specs.Calls.{any-below}
 use Rattle.raster.specs.declared.size.Size.{Size}
-use Rattle.paper.specs.Layers.{Desk, Layer, covers, covered, pixels-of, without, paint, with-pixels, or-blank}
+use Rattle.paper.specs.Layers.{Desk, Layer, with-layers, covers, covered, pixels-of, without, paint, with-pixels, or-blank}
 use Rattle.paper.specs.Slots.{obscured, hidden, hidden-in, patches-along, patches-in, count-patches, hidden-count, slots-needed}
 use Rattle.paper.specs.Run.{Alike, none, more}
 
@@ -103,3 +105,63 @@ unfolding hidden-count slots-needed
 hidden-needed also d e =
     count-mono (hidden-in (e .size) (e .layers)) _
     (λ c i j h. or-right (hidden-in (d .size) (d .layers) c i j) _ (or-left (hidden-in (e .size) (e .layers) c i j) (also c) h)) (e .layers)
+
+-- ── A layer less ──
+
+either-mono : (a b c : Bool) → Implies b c → Implies (a || b) (a || c)
+either-mono true b c h e = refl
+either-mono false b c h e = h e
+
+covered-mono : (c : ℕ) (ls : List Layer) (x y : ℤ) → Implies (covered (without c ls) x y) (covered ls x y)
+covered-mono c [] x y = λ h. h
+covered-mono c (l ∷ ls) x y = go (covered-mono c ls x y) (eqb (l .client) c)
+  where
+    go : Implies (covered (without c ls) x y) (covered ls x y) → (t : Bool) → Implies (covered (cond t (without c ls) (l ∷ without c ls)) x y) (covers l x y || covered ls x y)
+    go ih true h = or-right (covers l x y) (covered ls x y) (ih h)
+    go ih false h = either-mono (covers l x y) (covered (without c ls) x y) (covered ls x y) ih h
+
+any-mono : (f g : ℕ → Bool) → ((k : ℕ) → Implies (f k) (g k)) → (n : ℕ) → Implies (any-below f n) (any-below g n)
+any-mono f g h zero e = e
+any-mono f g h (suc n) e =
+    ⊎-elim (λ (a : any-below f n ≡ true). or-left (any-below g n) (g n) (any-mono f g h n a)) (λ (b : f n ≡ true). or-right (any-below g n) (g n) (h n b)) (or-cases (any-below f n) (f n) e)
+
+obscured-mono : (has on before after : Bool) → Implies before after → Implies (has && not (on && not before)) (has && not (on && not after))
+obscured-mono has on true after h = rw (h refl) (λ e. e)
+obscured-mono false on false after h = λ e. e
+obscured-mono true true false after h = λ e. absurd (false≢true e)
+obscured-mono true false false after h = λ e. e
+
+hidden-mono : (screen : Size) (c : ℕ) (ls : List Layer) (l : Layer) (i j : ℕ) → Implies (hidden screen (without c ls) l i j) (hidden screen ls l i j)
+unfolding hidden
+hidden-mono screen c ls l i j =
+    any-mono _ _ (λ v. any-mono _ _ (λ u.
+    obscured-mono (ltb (16 * i + u) (l .pixels .width) && ltb (16 * j + v) (l .pixels .height)) (inside screen (l .x +ℤ pos (16 * i + u)) (l .y +ℤ pos (16 * j + v)))
+    (covered (without c ls) (l .x +ℤ pos (16 * i + u)) (l .y +ℤ pos (16 * j + v))) (covered ls (l .x +ℤ pos (16 * i + u)) (l .y +ℤ pos (16 * j + v)))
+    (covered-mono c ls (l .x +ℤ pos (16 * i + u)) (l .y +ℤ pos (16 * j + v)))) 16) 16
+
+hidden-in-mono : (screen : Size) (c : ℕ) (ls : List Layer) (k i j : ℕ) → eqb k c ≡ false → Implies (hidden-in screen (without c ls) k i j) (hidden-in screen ls k i j)
+hidden-in-mono screen c [] k i j n = λ h. h
+hidden-in-mono screen c (l ∷ ls) k i j n = go (hidden-in-mono screen c ls k i j n) (eqb (l .client) c) refl
+  where
+    go : Implies (hidden-in screen (without c ls) k i j) (hidden-in screen ls k i j) → (t : Bool) → eqb (l .client) c ≡ t
+        → Implies (hidden-in screen (cond t (without c ls) (l ∷ without c ls)) k i j) (cond (eqb (l .client) k) (hidden screen ls l i j) (hidden-in screen ls k i j))
+    go ih true e = λ h. let other : eqb (l .client) k ≡ false = grind (arith, tells) in rw other (ih h)
+    go ih false e = by (eqb (l .client) k)
+      where
+        by : (b : Bool) → Implies (cond b (hidden screen (without c ls) l i j) (hidden-in screen (without c ls) k i j)) (cond b (hidden screen ls l i j) (hidden-in screen ls k i j))
+        by true = hidden-mono screen c ls l i j
+        by false = ih
+
+count-without : (f g : ℕ → ℕ → ℕ → Bool) (c : ℕ) → ((k i j : ℕ) → eqb k c ≡ false → Implies (f k i j) (g k i j)) → (ls : List Layer) → count-patches f (without c ls) ≤ count-patches g ls
+count-without f g c h [] = omega arith
+count-without f g c h (l ∷ ls) = go (count-without f g c h ls) (eqb (l .client) c) refl
+  where
+    go : count-patches f (without c ls) ≤ count-patches g ls → (t : Bool) → eqb (l .client) c ≡ t → count-patches f (cond t (without c ls) (l ∷ without c ls)) ≤ patches-in (g (l .client)) l + count-patches g ls
+    go ih true e = omega arith
+    go ih false e = omega (arith, patches-mono (f (l .client)) (g (l .client)) l (λ i j. h (l .client) i j e))
+
+-- Without a layer no more patches are hidden than with it.
+pub hidden-without : (c : ℕ) (d : Desk) → hidden-count (with-layers d (without c (d .layers))) ≤ hidden-count d
+unfolding hidden-count
+hidden-without c d =
+    count-without (hidden-in (d .size) (without c (d .layers))) (hidden-in (d .size) (d .layers)) c (hidden-in-mono (d .size) c (d .layers)) (d .layers)

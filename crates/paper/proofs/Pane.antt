@@ -10,14 +10,14 @@ use Rattle.std.proofs.shelf.Ways.{tells}
 use Rattle.std.specs.declared.option.Option.{Option}
 use Rattle.std.specs.declared.option.Option.the-variants.{Some, None}
 use Rattle.raster.specs.Picture.{Picture, sizes}
-use Rattle.raster.specs.Calls.{first-fault, if-refused}
+use Rattle.raster.specs.Calls.{first-fault}
 use Rattle.raster.specs.declared.refusal.Refusal.the-variants.{ClientAboveSeven}
 use Rattle.paper.specs.declared.DeskFault.{DeskFault}
 use Rattle.paper.specs.Layers.{Desk, Layer, or-blank, pixels-of, pane, paint, with-pixels, with-layers, screen-after}
-use Rattle.paper.specs.Desk.{Call, open-layer, close-layer, raise-layer, lower-layer, move-layer, fill-layer, scroll-layer, stamp-layer, read-layer, client-of, repaint, because, fault-of, change, after}
+use Rattle.paper.specs.Desk.{Call, open-layer, close-layer, raise-layer, lower-layer, move-layer, fill-layer, scroll-layer, stamp-layer, read-layer, client-of, repaint, because, fault-of, after}
 use Rattle.paper.specs.House.{draws, refused-for-host, outer-after}
 use Rattle.paper.proofs.Layers.{repainted, paint-same}
-use Rattle.paper.proofs.View.{next-is, other-stays, size-stays}
+use Rattle.paper.proofs.View.{after-refused, next-is, other-stays, size-stays}
 use Rattle.paper.proofs.Screen.{empty-screen}
 
 -- ── A call to the outer desk ──
@@ -52,8 +52,7 @@ fault-above d (stamp-layer c t source) e = first-fails (ltb 7 c) _ _ e
 fault-above d (read-layer c x y) e = first-fails (ltb 7 c) _ _ e
 
 above-seven : (d : Desk) (call : Call) → ltb 7 (client-of call) ≡ true → after d call ≡ d
-unfolding after
-above-seven d call h = ap (λ f. if-refused f d (change d call)) (fault-above d call h)
+above-seven d call h = after-refused d call _ (fault-above d call h)
 
 -- a raise, a lower, a move and a read leave the client's own pixels
 looks-only : (d : Desk) (call : Call) → draws call ≡ false → pixels-of (client-of call) (after d call .layers) ≡ pixels-of (client-of call) (d .layers)

@@ -73,9 +73,13 @@ run-then c depth rest (calls {s = s} {s′ = s′} {call = call} {got = got} {st
     (call-then c (s .paper) call got s′ (steps ++ rest) (does .answers) (does .leaves .paper)
     (run-then c (s .paper .size .depth) rest more d (subst (λ n. Trace c n (layer-of c (end-of s′ steps)) rest) (sym e) t)))
 
+-- What every call keeps true of the desk on paper is true at the end of a run.
+pub run-keeps : (P : Desk → Type 0) → ((d : Desk) (call : Call) → P d → P (after d call)) → {s : State} {steps : List Step} → Run s steps → P (s .paper) → P (end-of s steps .paper)
+run-keeps P step ends p = p
+run-keeps P step (calls {s = s} {call = call} does more) p = run-keeps P step more (subst P (sym (does .leaves .paper)) (step (s .paper) call p))
+
 pub run-size : {s : State} {steps : List Step} → Run s steps → end-of s steps .paper .size ≡ s .paper .size
-run-size ends = refl
-run-size (calls does more) = run-size more ∙ does-size does
+run-size {s} r = run-keeps (λ d. d .size ≡ s .paper .size) (λ d call e. size-stays d call ∙ e) r refl
 
 -- ── The screen at the end of a run ──
 
@@ -84,9 +88,7 @@ run-true ends t = t
 run-true (calls {s = s} {call = call} does more) t = run-true more (stays-true t (does .leaves) (size-stays (s .paper) call))
 
 pub run-clean : {s : State} {steps : List Step} → Run s steps → All-clean (s .paper .layers) → All-clean (end-of s steps .paper .layers)
-run-clean ends a = a
-run-clean (calls {s = s} {call = call} does more) a =
-    run-clean more (subst (λ p. All-clean (p .layers)) (sym (does .leaves .paper)) (clean-after (s .paper) call a))
+run-clean r a = run-keeps (λ d. All-clean (d .layers)) clean-after r a
 
 -- The screen and the hidden patches do not depend on the number of slots.
 screen-same : (d e : Desk) → d .size ≡ e .size → d .layers ≡ e .layers → screen-of d ≡ screen-of e

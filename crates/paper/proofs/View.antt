@@ -8,13 +8,14 @@ use Rattle.std.proofs.shelf.Tests.{eq-eqb}
 use Rattle.std.specs.Options.{isSome}
 use Rattle.std.specs.declared.option.Option.{Option}
 use Rattle.std.specs.declared.option.Option.the-variants.{Some, None}
+use Rattle.std.specs.declared.result.Result.the-variants.{Ok, Err}
 use Rattle.raster.specs.Picture.{Picture, sizes}
 use Rattle.raster.specs.Blt.{from-picture, count, blt}
 use Rattle.raster.specs.Calls.{Bitmap-call, read-at, fill-with, scroll-by, refuse-if, first-fault, unless, if-refused, bitmap-fault, bitmap-value, bitmap-change}
 use Rattle.raster.specs.declared.refusal.Refusal.the-variants.{NotOpen, ValueTooLarge}
 use Rattle.paper.specs.declared.DeskFault.{DeskFault}
 use Rattle.paper.specs.Layers.{Desk, Layer, with-layers, blank, or-else, or-blank, pixels-of, pane, paint}
-use Rattle.paper.specs.Desk.{Call, open-layer, close-layer, raise-layer, lower-layer, move-layer, fill-layer, scroll-layer, stamp-layer, read-layer, client-of, new-layer, repaint, change, because, carried, no-client, no-rule, fault-of, Answer, answer, after}
+use Rattle.paper.specs.Desk.{Call, open-layer, close-layer, raise-layer, lower-layer, move-layer, fill-layer, scroll-layer, stamp-layer, read-layer, client-of, new-layer, repaint, change, accepted-value, because, carried, no-client, no-rule, fault-of, Answer, answer, after}
 use Rattle.paper.specs.Run.{accepted, if-drawing}
 use Rattle.paper.proofs.Layers.{repainted, pixels-++, without-same, without-other, paint-same, paint-other, place-any, raised-any, lowered-any, or-else-none}
 
@@ -70,21 +71,40 @@ own-next depth o (read-layer c x y) b = o
 
 -- ── By the fault of a call ──
 
--- what holds either way holds
-either-way : {A F : Type 0} (f : Option F) (a : A) → if-refused f a a ≡ a
-either-way (Some f) a = refl
-either-way None a = refl
+-- What holds of the desk before a call, and of the desk that it leaves if it is accepted, holds after it.
+pub after-either : (P : Desk → Type 0) (d : Desk) (call : Call) → P d → (fault-of d call ≡ None → P (change d call)) → P (after d call)
+unfolding after
+after-either P d call before then = go (fault-of d call) refl
+  where
+    go : (f : Option DeskFault) → fault-of d call ≡ f → P (if-refused f d (change d call))
+    go (Some f) e = before
+    go None e = then e
 
--- a part of one of two values
-pub part-by : {A B F : Type 0} (g : A → B) (f : Option F) (a b : A) → g (if-refused f a b) ≡ if-refused f (g a) (g b)
-part-by g (Some f) a b = refl
-part-by g None a b = refl
+module _ (d : Desk) (call : Call) where
+  pub answer-refused : (f : DeskFault) → fault-of d call ≡ Some f → answer d call ≡ Err f
+  unfolding answer
+  answer-refused f e = ap (λ o. unless o (accepted-value d call)) e
+
+  pub after-refused : (f : DeskFault) → fault-of d call ≡ Some f → after d call ≡ d
+  unfolding after
+  after-refused f e = ap (λ o. if-refused o d (change d call)) e
+
+  pub answer-accepted : fault-of d call ≡ None → answer d call ≡ Ok (accepted-value d call)
+  unfolding answer
+  answer-accepted e = ap (λ o. unless o (accepted-value d call)) e
+
+  pub after-accepted : fault-of d call ≡ None → after d call ≡ change d call
+  unfolding after
+  after-accepted e = ap (λ o. if-refused o d (change d call)) e
 
 -- A part of the desk that an accepted call leaves alone is left alone by every call.
 pub stay-by : {A : Type 0} (g : Desk → A) (d : Desk) (call : Call) → g (change d call) ≡ g d → g (after d call) ≡ g d
-unfolding after
-stay-by g d call h =
-    part-by g (fault-of d call) d (change d call) ∙ ap (if-refused (fault-of d call) (g d)) h ∙ either-way (fault-of d call) (g d)
+stay-by g d call h = after-either (λ e. g e ≡ g d) d call refl (λ _. h)
+
+-- a part of one of two values
+part-by : {A B F : Type 0} (g : A → B) (f : Option F) (a b : A) → g (if-refused f a b) ≡ if-refused f (g a) (g b)
+part-by g (Some f) a b = refl
+part-by g None a b = refl
 
 accepted-by : {A : Type 0} (n : ℕ) (f : Option DeskFault) (a b : A) → if-refused f a b ≡ cond (accepted (unless f n)) b a
 accepted-by n (Some f) a b = refl

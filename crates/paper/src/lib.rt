@@ -1,5 +1,6 @@
 //! The desk on paper: definitions that the desk's contracts cite, and laws of them.
 ghost use Rattle.paper.specs.Apart.{Layers-keep-apart};
+ghost use Rattle.paper.specs.Laws.{Desk-laws};
 use raster::Fault;
 use raster::Refusal;
 
@@ -15,6 +16,13 @@ pub struct DeskFault {
 /// Layers keep apart, over every two runs on desks and in houses: specs/Apart.antt says how. Answers 0.
 pub fn layers_keep_apart() -> u8
     ensures { λ _. ⌜ Layers-keep-apart ⌝ }
+{
+    0
+}
+
+/// The laws of a desk: specs/Laws.antt states them. Answers 0.
+pub fn desk_laws() -> u8
+    ensures { λ _. ⌜ Desk-laws ⌝ }
 {
     0
 }
