@@ -30,7 +30,8 @@ use Rattle.paper.proofs.View.{after-either, answer-refused, answer-accepted, a
 use Rattle.paper.proofs.Layers.{pixels-++}
 use Rattle.paper.proofs.Order.{raised-raised, raised-lowered, placed-back, layers-of, layers-++, layers-split, layers-paint, layers-place, none-only, opened-closed}
 use Rattle.paper.proofs.Hidden.{clear-shows, shown-clear}
-use Rattle.paper.proofs.Outline.{hidden-count-same, paint-outline, hidden-needed, hidden-without}
+use Rattle.paper.proofs.Outline.{repaint-hidden, hidden-needed, hidden-without}
+use Rattle.paper.proofs.Screen.{covered-shows, uncovered-clears, untouched-stays, outside-stays}
 use Rattle.paper.proofs.Runs.{run-keeps, run-shows}
 
 -- ── What a call that is not refused says ──
@@ -128,7 +129,7 @@ enough-if also d call e =
 
 -- what is painted in its own size hides no more
 painted-enough : (c : ℕ) (p : Picture) (d : Desk) → sizes p ≡ sizes (pane c d) → Enough d → Enough (repaint c p d)
-painted-enough c p d e s = rw (hidden-count-same (repaint c p d) d refl (paint-outline (d .size .depth) c p (d .layers) e)) s
+painted-enough c p d e s = omega (arith, repaint-hidden c p d e)
 
 blt-sizes : (t : Transfer) (s : Source) (p : Picture) → sizes (blt t s p) ≡ sizes p
 unfolding blt
@@ -172,6 +173,10 @@ desk-laws = record {
   raise-lower = λ d c. ap (with-layers d) (raised-lowered c (d .layers));
   there-and-back = λ d c x y a b e. ap (with-layers d) (placed-back c x y a b (d .layers) e);
   open-close = open-close;
+  covered-shows = covered-shows;
+  uncovered-clears = uncovered-clears;
+  untouched-stays = untouched-stays;
+  outside-stays = outside-stays;
   one-layer = λ size slots steps r. run-keeps Single single-after r (λ k. omega arith);
   enough-slots = run-enough;
 }

@@ -15,8 +15,9 @@ use Rattle.raster.specs.Rules.{total}
 use Rattle.raster.specs.Blt.{in-rectangle, inside}
 use Rattle.raster.specs.Calls.{any-below}
 use Rattle.raster.specs.declared.size.Size.{Size}
-use Rattle.paper.specs.Layers.{Desk, Layer, with-layers, covers, covered, pixels-of, without, paint, with-pixels, or-blank}
+use Rattle.paper.specs.Layers.{Desk, Layer, with-layers, covers, covered, pixels-of, without, paint, with-pixels, or-blank, pane}
 use Rattle.paper.specs.Slots.{obscured, hidden, hidden-in, patches-along, patches-in, count-patches, hidden-count, slots-needed}
+use Rattle.paper.specs.Desk.{repaint}
 use Rattle.paper.specs.Run.{Alike, none, more}
 
 -- ── Outlines ──
@@ -76,6 +77,14 @@ paint-outline depth c p (l ∷ ls) e = go (paint-outline depth c p ls) (eqb (l .
         → Alike Same-outline (cond t (with-pixels l p ∷ ls) (l ∷ paint c p ls)) (l ∷ ls)
     go ih true e = more (record { client = refl; x = refl; y = refl; width = ap (λ s. s .width) e; height = ap (λ s. s .height) e }) (all-same ls)
     go ih false e = more (same-outline l) (ih e)
+
+-- So the same places are covered, and as many patches are hidden.
+module _ (c : ℕ) (p : Picture) (d : Desk) (e : sizes p ≡ sizes (pane c d)) where
+  pub repaint-covered : (x y : ℤ) → covered (repaint c p d .layers) x y ≡ covered (d .layers) x y
+  repaint-covered x y = covered-same (paint-outline (d .size .depth) c p (d .layers) e) x y
+
+  pub repaint-hidden : hidden-count (repaint c p d) ≡ hidden-count d
+  repaint-hidden = hidden-count-same (repaint c p d) d refl (paint-outline (d .size .depth) c p (d .layers) e)
 
 -- ── More passes, more patches ──
 

@@ -9,7 +9,7 @@ use Rattle.std.proofs.shelf.Signed.{ints}
 use Rattle.std.proofs.shelf.Ways.{tells}
 use Rattle.std.specs.declared.option.Option.{Option}
 use Rattle.std.specs.declared.option.Option.the-variants.{Some, None}
-use Rattle.std.proofs.shelf.Tests.{and-left, or-parts}
+use Rattle.std.proofs.shelf.Tests.{and-left, and-right, and-from, or-left, or-right, or-from, or-parts, cond-true, cond-false}
 use Rattle.raster.specs.Picture.{Picture, sizes, painted}
 use Rattle.raster.specs.Blt.{inside}
 use Rattle.raster.specs.declared.size.Size.{Size}
@@ -36,6 +36,26 @@ none-shown ls x y e = ap (λ o. pixel-of o x y) (none-topmost ls x y e)
 pub screen-sizes : (s : Picture) (d e : Desk) → sizes (screen-after s d e) ≡ sizes s
 unfolding screen-after
 screen-sizes s d e = painted-sizes s _ _
+
+-- Each place on the screen after a call.
+
+module _ (screen : Picture) (before after : Desk) (x y : ℕ) (on : inside (sizes screen) (pos x) (pos y) ≡ true) where
+  pub covered-shows : covered (after .layers) (pos x) (pos y) ≡ true → screen-after screen before after .at x y ≡ shown (after .layers) (pos x) (pos y)
+  unfolding screen-after painted
+  covered-shows c = cond-true _ _ _ (and-from _ _ on (or-right (covered (before .layers) (pos x) (pos y)) _ c))
+
+  pub uncovered-clears : covered (before .layers) (pos x) (pos y) ≡ true → covered (after .layers) (pos x) (pos y) ≡ false → screen-after screen before after .at x y ≡ 0
+  unfolding screen-after painted
+  uncovered-clears b n = cond-true _ _ _ (and-from _ _ on (or-left _ (covered (after .layers) (pos x) (pos y)) b)) ∙ none-shown (after .layers) (pos x) (pos y) n
+
+pub untouched-stays : (screen : Picture) (before after : Desk) (x y : ℕ) → covered (before .layers) (pos x) (pos y) ≡ false → covered (after .layers) (pos x) (pos y) ≡ false
+    → screen-after screen before after .at x y ≡ screen .at x y
+unfolding screen-after painted
+untouched-stays screen before after x y b n = cond-false _ _ _ (and-right (inside (sizes screen) (pos x) (pos y)) _ (or-from _ _ b n))
+
+pub outside-stays : (screen : Picture) (before after : Desk) (x y : ℕ) → inside (sizes screen) (pos x) (pos y) ≡ false → screen-after screen before after .at x y ≡ screen .at x y
+unfolding screen-after painted
+outside-stays screen before after x y off = cond-false _ _ _ (and-left _ _ off)
 
 -- one place, on the screen or not, covered before or not, and after or not
 one-place : (on before after : Bool) (was shows : ℕ) → (before ≡ false → was ≡ 0) → (after ≡ false → shows ≡ 0)
@@ -85,3 +105,23 @@ empty-screen s d e w = painted-none s _ _ (λ x y. and-left (inside (sizes s) (p
   where
     none-inside : (s : Picture) (x y : ℕ) → s .width ≡ 0 → inside (sizes s) (pos x) (pos y) ≡ false
     none-inside s x y w = grind (arith, ints, tells)
+
+-- one place after two calls
+two-calls : (on d e f : Bool) (was se sf : ℕ) → (e ≡ true → (d || f) ≡ true) → (e ≡ false → se ≡ 0) → (f ≡ false → sf ≡ 0)
+    → cond (on && (e || f)) sf (cond (on && (d || e)) se was) ≡ cond (on && (d || f)) sf was
+two-calls false d e f was se sf h p q = refl
+two-calls true d true f was se sf h p q = sym (cond-true (d || f) sf was (h refl))
+two-calls true true false true was se sf h p q = refl
+two-calls true true false false was se sf h p q = p refl ∙ sym (q refl)
+two-calls true false false f was se sf h p q = refl
+
+-- Two calls one after the other leave on the screen what one would that leads from the first desk to the last, if between
+-- them no place is covered that is not covered at either end.
+pub screen-joins : (s : Picture) (d e f : Desk) → ((x y : ℤ) → covered (e .layers) x y ≡ true → (covered (d .layers) x y || covered (f .layers) x y) ≡ true)
+    → screen-after (screen-after s d e) e f ≡ screen-after s d f
+unfolding screen-after painted
+screen-joins s d e f h =
+    same-picture (screen-after (screen-after s d e) e f) (screen-after s d f) refl refl refl
+    (λ x y.
+    two-calls (inside (sizes s) (pos x) (pos y)) (covered (d .layers) (pos x) (pos y)) (covered (e .layers) (pos x) (pos y)) (covered (f .layers) (pos x) (pos y))
+    (s .at x y) (shown (e .layers) (pos x) (pos y)) (shown (f .layers) (pos x) (pos y)) (h (pos x) (pos y)) (none-shown (e .layers) (pos x) (pos y)) (none-shown (f .layers) (pos x) (pos y)))

@@ -5,14 +5,15 @@ use mathlib.Core.List.{List, [], _∷_}
 use Prim.Native.Nat.{ℕ, _≤_}
 use lib.Dec.{eqb}
 use lib.ListN.{length}
-use lib.IntN.{ℤ}
+use lib.IntN.{ℤ, pos}
 use Rattle.std.specs.declared.option.Option.{Option}
 use Rattle.std.specs.declared.option.Option.the-variants.{Some, None}
 use Rattle.std.specs.declared.result.Result.the-variants.{Ok, Err}
+use Rattle.raster.specs.Picture.{Picture, sizes}
 use Rattle.raster.specs.Blt.{inside}
 use Rattle.raster.specs.declared.size.Size.{Size}
 use Rattle.paper.specs.declared.DeskFault.{DeskFault}
-use Rattle.paper.specs.Layers.{Desk, Layer, covers, covered, only}
+use Rattle.paper.specs.Layers.{Desk, Layer, covers, covered, shown, screen-after, only}
 use Rattle.paper.specs.Slots.{hidden}
 use Rattle.paper.specs.Desk.{Call, open-layer, close-layer, raise-layer, lower-layer, move-layer, change, answer, after}
 use Rattle.paper.specs.Run.{new-state, Step, end-of, Run}
@@ -49,6 +50,20 @@ pub record Desk-laws : Type 0 where
   -- a close after an accepted open restores the desk
   pub open-close : (d : Desk) (c : ℕ) (x y : ℤ) (w h n : ℕ) → answer d (open-layer c x y w h) ≡ Ok n
       → after (after d (open-layer c x y w h)) (close-layer c) ≡ d
+
+  -- what a call leaves on the screen: a place that a layer covers after it shows the topmost layer, one that was covered
+  -- before and is not after is 0, every other is as it was
+  pub covered-shows : (screen : Picture) (before after : Desk) (x y : ℕ) → inside (sizes screen) (pos x) (pos y) ≡ true
+      → covered (after .layers) (pos x) (pos y) ≡ true
+      → screen-after screen before after .at x y ≡ shown (after .layers) (pos x) (pos y)
+  pub uncovered-clears : (screen : Picture) (before after : Desk) (x y : ℕ) → inside (sizes screen) (pos x) (pos y) ≡ true
+      → covered (before .layers) (pos x) (pos y) ≡ true → covered (after .layers) (pos x) (pos y) ≡ false
+      → screen-after screen before after .at x y ≡ 0
+  pub untouched-stays : (screen : Picture) (before after : Desk) (x y : ℕ)
+      → covered (before .layers) (pos x) (pos y) ≡ false → covered (after .layers) (pos x) (pos y) ≡ false
+      → screen-after screen before after .at x y ≡ screen .at x y
+  pub outside-stays : (screen : Picture) (before after : Desk) (x y : ℕ) → inside (sizes screen) (pos x) (pos y) ≡ false
+      → screen-after screen before after .at x y ≡ screen .at x y
 
   -- in every run of a new desk a client has at most one layer, and the slots in use are at most those there are
   pub one-layer : (size : Size) (slots : ℕ) (steps : List Step) → Run (new-state size slots) steps
