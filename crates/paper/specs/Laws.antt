@@ -34,23 +34,18 @@ Clear screen higher l = (x y : ℤ) → covers l x y ≡ true → (inside screen
 pub record Desk-laws : Type 0 where
   -- a refused call leaves the desk as it was
   pub refused-stays : (d : Desk) (call : Call) (f : DeskFault) → answer d call ≡ Err f → after d call ≡ d
-
   -- no patch of a layer is hidden exactly if it is wholly on the screen and nothing above meets it
   pub clear-shows : (screen : Size) (higher : List Layer) (l : Layer) → Clear screen higher l → None-hidden screen higher l
   pub shown-clear : (screen : Size) (higher : List Layer) (l : Layer) → None-hidden screen higher l → Clear screen higher l
-
   -- to raise twice is to raise once, and to raise and then lower is to lower
   pub raise-twice : (d : Desk) (c : ℕ) → change (change d (raise-layer c)) (raise-layer c) ≡ change d (raise-layer c)
   pub raise-lower : (d : Desk) (c : ℕ) → change (change d (raise-layer c)) (lower-layer c) ≡ change d (lower-layer c)
-
   -- a move there and back restores the desk
   pub there-and-back : (d : Desk) (c : ℕ) (x y a b : ℤ) → corner-of c (d .layers) ≡ Some (a, b)
       → change (change d (move-layer c x y)) (move-layer c a b) ≡ d
-
   -- a close after an accepted open restores the desk
   pub open-close : (d : Desk) (c : ℕ) (x y : ℤ) (w h n : ℕ) → answer d (open-layer c x y w h) ≡ Ok n
       → after (after d (open-layer c x y w h)) (close-layer c) ≡ d
-
   -- what a call leaves on the screen: a place that a layer covers after it shows the topmost layer, one that was covered
   -- before and is not after is 0, every other is as it was
   pub covered-shows : (screen : Picture) (before after : Desk) (x y : ℕ) → inside (sizes screen) (pos x) (pos y) ≡ true
@@ -64,7 +59,6 @@ pub record Desk-laws : Type 0 where
       → screen-after screen before after .at x y ≡ screen .at x y
   pub outside-stays : (screen : Picture) (before after : Desk) (x y : ℕ) → inside (sizes screen) (pos x) (pos y) ≡ false
       → screen-after screen before after .at x y ≡ screen .at x y
-
   -- in every run of a new desk a client has at most one layer, and the slots in use are at most those there are
   pub one-layer : (size : Size) (slots : ℕ) (steps : List Step) → Run (new-state size slots) steps
       → (c : ℕ) → length (only c (end-of (new-state size slots) steps .paper .layers)) ≤ 1
