@@ -8,8 +8,9 @@ use lib.IntN.{ℤ}
 use Rattle.std.specs.declared.option.Option.{Option}
 use Rattle.std.specs.declared.option.Option.the-variants.{Some, None}
 use Rattle.raster.specs.Picture.{Picture}
-use Rattle.paper.specs.Layers.{Desk, Layer, or-blank, pixels-of, pane, only, without, paint, place, with-pixels, at-corner}
-use Rattle.paper.specs.Desk.{Call, open-layer, close-layer, raise-layer, lower-layer, move-layer, fill-layer, scroll-layer, stamp-layer, read-layer, change, after}
+use Rattle.raster.specs.Blt.{Transfer, Source, blt}
+use Rattle.paper.specs.Layers.{Desk, Layer, or-blank, pixels-of, pane, keep, only, without, alter, with-pixels, at-corner}
+use Rattle.paper.specs.Desk.{Call, open-layer, close-layer, raise-layer, lower-layer, move-layer, fill-layer, scroll-layer, stamp-layer, read-layer, repaint, change, after}
 use Rattle.paper.specs.Run.{Alike, none, more, Same-layer}
 use Rattle.paper.proofs.View.{after-either}
 use Rattle.paper.proofs.Pictures.{Clean, blank-clean, blt-clean, same-is}
@@ -28,37 +29,24 @@ clean-++ : (ls ms : List Layer) → All-clean ls → All-clean ms → All-clean 
 clean-++ [] ms a b = b
 clean-++ (l ∷ ls) ms a b = (a .0, clean-++ ls ms (a .1) b)
 
-clean-only : (c : ℕ) (ls : List Layer) → All-clean ls → All-clean (only c ls)
-clean-only c [] a = tt
-clean-only c (l ∷ ls) a = go (clean-only c ls (a .1)) (eqb (l .client) c)
+clean-keep : (t : ℕ → Bool) (ls : List Layer) → All-clean ls → All-clean (keep t ls)
+clean-keep t [] a = tt
+clean-keep t (l ∷ ls) a = go (clean-keep t ls (a .1)) (t (l .client))
   where
-    go : All-clean (only c ls) → (b : Bool) → All-clean (cond b (l ∷ only c ls) (only c ls))
+    go : All-clean (keep t ls) → (b : Bool) → All-clean (cond b (l ∷ keep t ls) (keep t ls))
     go ih true = (a .0, ih)
     go ih false = ih
 
-clean-without : (c : ℕ) (ls : List Layer) → All-clean ls → All-clean (without c ls)
-clean-without c [] a = tt
-clean-without c (l ∷ ls) a = go (clean-without c ls (a .1)) (eqb (l .client) c)
+clean-alter : (c : ℕ) (f : Layer → Layer) → ((l : Layer) → Clean (l .pixels) → Clean (f l .pixels)) → (ls : List Layer) → All-clean ls → All-clean (alter c f ls)
+clean-alter c f h [] a = tt
+clean-alter c f h (l ∷ ls) a = go (clean-alter c f h ls (a .1)) (eqb (l .client) c)
   where
-    go : All-clean (without c ls) → (b : Bool) → All-clean (cond b (without c ls) (l ∷ without c ls))
-    go ih true = ih
+    go : All-clean (alter c f ls) → (b : Bool) → All-clean (cond b (f l ∷ ls) (l ∷ alter c f ls))
+    go ih true = (h l (a .0), a .1)
     go ih false = (a .0, ih)
 
-pub clean-paint : (c : ℕ) (p : Picture) (ls : List Layer) → Clean p → All-clean ls → All-clean (paint c p ls)
-clean-paint c p [] k a = tt
-clean-paint c p (l ∷ ls) k a = go (clean-paint c p ls k (a .1)) (eqb (l .client) c)
-  where
-    go : All-clean (paint c p ls) → (b : Bool) → All-clean (cond b (with-pixels l p ∷ ls) (l ∷ paint c p ls))
-    go ih true = (k, a .1)
-    go ih false = (a .0, ih)
-
-clean-place : (c : ℕ) (x y : ℤ) (ls : List Layer) → All-clean ls → All-clean (place c x y ls)
-clean-place c x y [] a = tt
-clean-place c x y (l ∷ ls) a = go (clean-place c x y ls (a .1)) (eqb (l .client) c)
-  where
-    go : All-clean (place c x y ls) → (b : Bool) → All-clean (cond b (at-corner l x y ∷ ls) (l ∷ place c x y ls))
-    go ih true = a
-    go ih false = (a .0, ih)
+pub clean-repaint : (c : ℕ) (p : Picture) (d : Desk) → Clean p → All-clean (d .layers) → All-clean (repaint c p d .layers)
+clean-repaint c p d k a = clean-alter c (with-pixels p) (λ l _. k) (d .layers) a
 
 clean-pane : (depth c : ℕ) (ls : List Layer) → All-clean ls → Clean (or-blank depth (pixels-of c ls))
 clean-pane depth c [] a = blank-clean 0 0 depth
@@ -68,15 +56,18 @@ clean-pane depth c (l ∷ ls) a = go (clean-pane depth c ls (a .1)) (eqb (l .cli
     go ih true = a .0
     go ih false = ih
 
+clean-drawn : (c : ℕ) (d : Desk) (t : Transfer) (s : Source) → All-clean (d .layers) → All-clean (repaint c (blt t s (pane c d)) d .layers)
+clean-drawn c d t s a = clean-repaint c (blt t s (pane c d)) d (blt-clean t s (pane c d) (clean-pane (d .size .depth) c (d .layers) a)) a
+
 clean-change : (d : Desk) (call : Call) → All-clean (d .layers) → All-clean (change d call .layers)
 clean-change d (open-layer c x y w h) a = clean-++ (d .layers) _ a (blank-clean w h (d .size .depth), tt)
-clean-change d (close-layer c) a = clean-without c (d .layers) a
-clean-change d (raise-layer c) a = clean-++ (without c (d .layers)) (only c (d .layers)) (clean-without c (d .layers) a) (clean-only c (d .layers) a)
-clean-change d (lower-layer c) a = clean-++ (only c (d .layers)) (without c (d .layers)) (clean-only c (d .layers) a) (clean-without c (d .layers) a)
-clean-change d (move-layer c x y) a = clean-place c x y (d .layers) a
-clean-change d (fill-layer c rule v x y w h) a = clean-paint c _ (d .layers) (blt-clean _ _ (pane c d) (clean-pane (d .size .depth) c (d .layers) a)) a
-clean-change d (scroll-layer c t) a = clean-paint c _ (d .layers) (blt-clean t _ (pane c d) (clean-pane (d .size .depth) c (d .layers) a)) a
-clean-change d (stamp-layer c t source) a = clean-paint c _ (d .layers) (blt-clean t _ (pane c d) (clean-pane (d .size .depth) c (d .layers) a)) a
+clean-change d (close-layer c) a = clean-keep _ (d .layers) a
+clean-change d (raise-layer c) a = clean-++ (without c (d .layers)) (only c (d .layers)) (clean-keep _ (d .layers) a) (clean-keep _ (d .layers) a)
+clean-change d (lower-layer c) a = clean-++ (only c (d .layers)) (without c (d .layers)) (clean-keep _ (d .layers) a) (clean-keep _ (d .layers) a)
+clean-change d (move-layer c x y) a = clean-alter c (at-corner x y) (λ l k. k) (d .layers) a
+clean-change d (fill-layer c rule v x y w h) a = clean-drawn c d _ _ a
+clean-change d (scroll-layer c t) a = clean-drawn c d t _ a
+clean-change d (stamp-layer c t source) a = clean-drawn c d t _ a
 clean-change d (read-layer c x y) a = a
 
 -- Every call leaves clean layers clean.

@@ -8,17 +8,17 @@ use lib.IntN.{ℤ}
 use Rattle.std.specs.declared.result.Result.the-variants.{Ok, Err}
 use Rattle.raster.specs.Calls.{refuse-if, first-fault, unless}
 use Rattle.raster.specs.declared.refusal.Refusal.the-variants.{TooFewSlots}
-use Rattle.paper.specs.Layers.{place}
+use Rattle.paper.specs.Layers.{alter, at-corner}
 use Rattle.paper.specs.Slots.{hidden, hidden-count, slots-needed}
 use Rattle.paper.specs.Desk.{move-layer, because, Answer, answer}
 use Rattle.paper.specs.Examples.{Desk-examples, layer, desk}
 
 -- a moved layer's patches count, hidden or not
-needs-wide : (x y : ℤ) → slots-needed (eqb 1) (desk 1 (layer 1 0 0 17 16 ∷ [])) (desk 1 (place 1 x y (layer 1 0 0 17 16 ∷ []))) ≡ 2
+needs-wide : (x y : ℤ) → slots-needed (eqb 1) (desk 1 (layer 1 0 0 17 16 ∷ [])) (desk 1 (alter 1 (at-corner x y) (layer 1 0 0 17 16 ∷ []))) ≡ 2
 unfolding slots-needed
 needs-wide x y = simp or-true
 
-needs-narrow : (x y : ℤ) → slots-needed (eqb 1) (desk 1 (layer 1 0 0 16 16 ∷ [])) (desk 1 (place 1 x y (layer 1 0 0 16 16 ∷ []))) ≡ 1
+needs-narrow : (x y : ℤ) → slots-needed (eqb 1) (desk 1 (layer 1 0 0 16 16 ∷ [])) (desk 1 (alter 1 (at-corner x y) (layer 1 0 0 16 16 ∷ []))) ≡ 1
 unfolding slots-needed
 needs-narrow x y = simp or-true
 

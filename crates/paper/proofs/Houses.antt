@@ -23,7 +23,7 @@ use Rattle.paper.specs.Apart.{Settled, Inner-screen-stays, House-runs-keep-apa
 use Rattle.paper.proofs.Layers.{paint-other}
 use Rattle.paper.proofs.View.{size-stays}
 use Rattle.paper.proofs.Pictures.{Clean}
-use Rattle.paper.proofs.Clean.{All-clean, clean-paint, clean-after}
+use Rattle.paper.proofs.Clean.{All-clean, clean-repaint, clean-after}
 use Rattle.paper.proofs.Screen.{True-to-paper, screen-clean, new-true, stays-true}
 use Rattle.paper.proofs.Trace.{Trace, done, same-view}
 use Rattle.paper.proofs.Runs.{quiet-step, quiet-elsewhere, quiet-then, call-then, run-then, run-size, run-true, run-clean, settled}
@@ -126,7 +126,7 @@ mixed-true host (house.inner {t = t} {t′ = t′} {call = call} does rest) h =
       stands-on = does .stands-on;
       outer-true = stays-true (h .outer-true) (does .outer-leaves) refl;
       inner-true = inner-true;
-      outer-clean = clean-in (does .outer-leaves .paper) (clean-paint host (t′ .inner .screen) (t .outer .paper .layers) (true-clean (t′ .inner) inner-true) (h .outer-clean));
+      outer-clean = clean-in (does .outer-leaves .paper) (clean-repaint host (t′ .inner .screen) (t .outer .paper) (true-clean (t′ .inner) inner-true) (h .outer-clean));
       inner-clean = clean-in (does .does .leaves .paper) (clean-after (t .inner .paper) call (h .inner-clean));
     })
 
@@ -189,7 +189,7 @@ module _ {start : State} (r : House-run start) where
         stands-on = r .is-made .stands-on;
         outer-true = stays-true (run-true (r .is-run) t) (r .is-made .outer-leaves) refl;
         inner-true = inner-true;
-        outer-clean = clean-in (r .is-made .outer-leaves .paper) (clean-paint (r .host) (r .made .inner .screen) (end-of start (r .alone) .paper .layers) (true-clean (r .made .inner) inner-true) (run-clean (r .is-run) a));
+        outer-clean = clean-in (r .is-made .outer-leaves .paper) (clean-repaint (r .host) (r .made .inner .screen) (end-of start (r .alone) .paper) (true-clean (r .made .inner) inner-true) (run-clean (r .is-run) a));
         inner-clean = clean-in (ap (λ s. s .paper) (r .is-made .inner-new)) tt;
       }
 

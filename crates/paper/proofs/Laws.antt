@@ -21,16 +21,16 @@ use Rattle.raster.specs.declared.refusal.Refusal.the-variants.{NotOpen}
 use Rattle.raster.specs.declared.size.Size.{Size}
 use Rattle.raster.proofs.Paints.{painted-sizes}
 use Rattle.paper.specs.declared.DeskFault.{DeskFault}
-use Rattle.paper.specs.Layers.{Desk, Layer, with-layers, or-else, pixels-of, pane, only, without}
+use Rattle.paper.specs.Layers.{Desk, Layer, with-layers, or-else, pixels-of, pane, only, without, alter, with-pixels, at-corner}
 use Rattle.paper.specs.Slots.{hidden-count, slots-needed}
 use Rattle.paper.specs.Desk.{Call, open-layer, close-layer, raise-layer, lower-layer, move-layer, fill-layer, scroll-layer, stamp-layer, read-layer, new-layer, repaint, change, because, no-client, not-open, already-open, beyond-size, too-few-slots, fault-of, answer, after}
 use Rattle.paper.specs.Run.{new-state, Step, end-of, Run}
 use Rattle.paper.specs.Laws.{Desk-laws}
 use Rattle.paper.proofs.View.{after-either, answer-refused, answer-accepted, after-accepted, slots-stay}
 use Rattle.paper.proofs.Layers.{pixels-++}
-use Rattle.paper.proofs.Order.{raised-raised, raised-lowered, placed-back, layers-of, layers-++, layers-split, layers-paint, layers-place, none-only, opened-closed}
+use Rattle.paper.proofs.Order.{raised-raised, raised-lowered, placed-back, layers-of, layers-++, layers-split, layers-alter, none-only, opened-closed}
 use Rattle.paper.proofs.Hidden.{clear-shows, shown-clear}
-use Rattle.paper.proofs.Outline.{repaint-hidden, hidden-needed, hidden-without}
+use Rattle.paper.proofs.Outline.{repaint-hidden, hidden-needed, hidden-keep}
 use Rattle.paper.proofs.Screen.{covered-shows, uncovered-clears, untouched-stays, outside-stays}
 use Rattle.paper.proofs.Runs.{run-keeps, run-shows}
 
@@ -79,7 +79,7 @@ closes d c l e m =
     pixels-++ c (d .layers) (l ∷ []) ∙ ap₂ (λ o t. or-else o (cond t (Some (l .pixels)) None)) (m .unopened) own in
     after-accepted (with-layers d (d .layers ++ (l ∷ []))) (close-layer c)
     (ap₂ (λ f o. first-fault (f ∷ refuse-if (not (isSome o)) (because NotOpen c) ∷ [])) (m .client) e₁)
-    ∙ ap (with-layers d) (opened-closed c l (d .layers) own (m .unopened))
+    ∙ ap (with-layers d) (opened-closed c l (d .layers) (eq-eqb c (l .client) (sym e)) (m .unopened))
 
 open-close : (d : Desk) (c : ℕ) (x y : ℤ) (w h n : ℕ) → answer d (open-layer c x y w h) ≡ Ok n → after (after d (open-layer c x y w h)) (close-layer c) ≡ d
 open-close d c x y w h n e =
@@ -93,24 +93,27 @@ abbrev Single : Desk → Type 0
 Single d = (k : ℕ) → layers-of k (d .layers) ≤ 1
 
 single-open : (d : Desk) (c : ℕ) (l : Layer) → l .client ≡ c → pixels-of c (d .layers) ≡ None → Single d → Single (with-layers d (d .layers ++ (l ∷ [])))
-single-open d c l e n s k = rw (layers-++ k (d .layers) (l ∷ [])) (go (eqb (l .client) k) refl)
+single-open d c l e n s k = rw (layers-++ k (d .layers) (l ∷ [])) (go (eqb k (l .client)) refl)
   where
-    go : (t : Bool) → eqb (l .client) k ≡ t → layers-of k (d .layers) + length (cond t (l ∷ []) []) ≤ 1
+    go : (t : Bool) → eqb k (l .client) ≡ t → layers-of k (d .layers) + length (cond t (l ∷ []) []) ≤ 1
     go true q =
-        let same : c ≡ k = sym e ∙ eqb-true (l .client) k q in
+        let same : c ≡ k = sym (eqb-true k (l .client) q ∙ e) in
         let zero-of : layers-of k (d .layers) ≡ 0 = subst (λ a. layers-of a (d .layers) ≡ 0) same (ap length (none-only c (d .layers) n)) in
         omega arith
     go false q = omega (arith, s k)
 
+single-alter : (d : Desk) (c : ℕ) (f : Layer → Layer) → ((l : Layer) → f l .client ≡ l .client) → Single d → Single (with-layers d (alter c f (d .layers)))
+single-alter d c f h s k = rw (layers-alter k c f h (d .layers)) (s k)
+
 single-change : (d : Desk) (call : Call) → fault-of d call ≡ None → Single d → Single (change d call)
 single-change d (open-layer c x y w h) f s k = single-open d c (new-layer (d .size .depth) c x y w h) refl (may-open d c x y w h f .unopened) s k
-single-change d (close-layer c) f s k = omega (arith, layers-split k c (d .layers), s k)
-single-change d (raise-layer c) f s k = omega (arith, layers-++ k (without c (d .layers)) (only c (d .layers)), layers-split k c (d .layers), s k)
-single-change d (lower-layer c) f s k = omega (arith, layers-++ k (only c (d .layers)) (without c (d .layers)), layers-split k c (d .layers), s k)
-single-change d (move-layer c x y) f s k = rw (layers-place k c x y (d .layers)) (s k)
-single-change d (fill-layer c rule v x y w h) f s k = rw (layers-paint k c _ (d .layers)) (s k)
-single-change d (scroll-layer c t) f s k = rw (layers-paint k c _ (d .layers)) (s k)
-single-change d (stamp-layer c t source) f s k = rw (layers-paint k c _ (d .layers)) (s k)
+single-change d (close-layer c) f s k = omega (arith, layers-split k (λ n. eqb c n) (d .layers), s k)
+single-change d (raise-layer c) f s k = omega (arith, layers-++ k (without c (d .layers)) (only c (d .layers)), layers-split k (λ n. eqb c n) (d .layers), s k)
+single-change d (lower-layer c) f s k = omega (arith, layers-++ k (only c (d .layers)) (without c (d .layers)), layers-split k (λ n. eqb c n) (d .layers), s k)
+single-change d (move-layer c x y) f s k = single-alter d c (at-corner x y) (λ l. refl) s k
+single-change d (fill-layer c rule v x y w h) f s k = single-alter d c (with-pixels _) (λ l. refl) s k
+single-change d (scroll-layer c t) f s k = single-alter d c (with-pixels _) (λ l. refl) s k
+single-change d (stamp-layer c t source) f s k = single-alter d c (with-pixels _) (λ l. refl) s k
 single-change d (read-layer c x y) f s k = s k
 
 -- A client that has at most one layer has at most one after every call.
@@ -140,7 +143,7 @@ enough-change d (open-layer c x y w h) f s =
     let e₁ = passed-first (no-client c) _ f in
     let e₂ = passed-first (already-open c d) _ (e₁ .1) in
     enough-if (λ _. false) d (open-layer c x y w h) (passed-first (beyond-size c w h) _ (e₂ .1) .1)
-enough-change d (close-layer c) f s = omega (arith, hidden-without c d)
+enough-change d (close-layer c) f s = omega (arith, hidden-keep (λ k. not (eqb c k)) d)
 enough-change d (raise-layer c) f s = enough-if (λ _. false) d (raise-layer c) (passed-first (not-open c d) _ (passed-first (no-client c) _ f .1) .1)
 enough-change d (lower-layer c) f s = enough-if (λ _. false) d (lower-layer c) (passed-first (not-open c d) _ (passed-first (no-client c) _ f .1) .1)
 enough-change d (move-layer c x y) f s = enough-if (eqb c) d (move-layer c x y) (passed-first (not-open c d) _ (passed-first (no-client c) _ f .1) .1)

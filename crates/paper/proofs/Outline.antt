@@ -8,14 +8,13 @@ use native.Mathlib.Omega.{arith}
 use lib.Dec.{eqb, ltb}
 use lib.IntN.{ℤ, pos, _+ℤ_}
 use Rattle.std.specs.declared.option.Option.the-variants.{Some}
-use Rattle.std.proofs.shelf.Tests.{or-left, or-right, or-cases, false≢true}
-use Rattle.std.proofs.shelf.Ways.{tells}
+use Rattle.std.proofs.shelf.Tests.{eqb-true, or-left, or-right, or-cases, false≢true, true≢false}
 use Rattle.raster.specs.Picture.{Picture, sizes}
 use Rattle.raster.specs.Rules.{total}
 use Rattle.raster.specs.Blt.{in-rectangle, inside}
 use Rattle.raster.specs.Calls.{any-below}
 use Rattle.raster.specs.declared.size.Size.{Size}
-use Rattle.paper.specs.Layers.{Desk, Layer, with-layers, covers, covered, pixels-of, without, paint, with-pixels, or-blank, pane}
+use Rattle.paper.specs.Layers.{Desk, Layer, with-layers, covers, covered, pixels-of, keep, alter, with-pixels, or-blank, pane}
 use Rattle.paper.specs.Slots.{obscured, hidden, hidden-in, patches-along, patches-in, count-patches, hidden-count, slots-needed}
 use Rattle.paper.specs.Desk.{repaint}
 use Rattle.paper.specs.Run.{Alike, none, more}
@@ -65,7 +64,7 @@ hidden-count-same d e s ss =
     ∙ count-same (hidden-in (e .size) (e .layers)) ss
 
 -- Painting a layer with a picture of its size keeps all outlines.
-pub paint-outline : (depth c : ℕ) (p : Picture) (ls : List Layer) → sizes p ≡ sizes (or-blank depth (pixels-of c ls)) → Alike Same-outline (paint c p ls) ls
+paint-outline : (depth c : ℕ) (p : Picture) (ls : List Layer) → sizes p ≡ sizes (or-blank depth (pixels-of c ls)) → Alike Same-outline (alter c (with-pixels p) ls) ls
 paint-outline depth c p [] e = none
 paint-outline depth c p (l ∷ ls) e = go (paint-outline depth c p ls) (eqb (l .client) c) e
   where
@@ -73,8 +72,8 @@ paint-outline depth c p (l ∷ ls) e = go (paint-outline depth c p ls) (eqb (l .
     all-same [] = none
     all-same (l ∷ ls) = more (same-outline l) (all-same ls)
 
-    go : (sizes p ≡ sizes (or-blank depth (pixels-of c ls)) → Alike Same-outline (paint c p ls) ls) → (t : Bool) → sizes p ≡ sizes (or-blank depth (cond t (Some (l .pixels)) (pixels-of c ls)))
-        → Alike Same-outline (cond t (with-pixels l p ∷ ls) (l ∷ paint c p ls)) (l ∷ ls)
+    go : (sizes p ≡ sizes (or-blank depth (pixels-of c ls)) → Alike Same-outline (alter c (with-pixels p) ls) ls) → (t : Bool) → sizes p ≡ sizes (or-blank depth (cond t (Some (l .pixels)) (pixels-of c ls)))
+        → Alike Same-outline (cond t (with-pixels p l ∷ ls) (l ∷ alter c (with-pixels p) ls)) (l ∷ ls)
     go ih true e = more (record { client = refl; x = refl; y = refl; width = ap (λ s. s .width) e; height = ap (λ s. s .height) e }) (all-same ls)
     go ih false e = more (same-outline l) (ih e)
 
@@ -115,19 +114,11 @@ hidden-needed also d e =
     count-mono (hidden-in (e .size) (e .layers)) _
     (λ c i j h. or-right (hidden-in (d .size) (d .layers) c i j) _ (or-left (hidden-in (e .size) (e .layers) c i j) (also c) h)) (e .layers)
 
--- ── A layer less ──
+-- ── Some layers less ──
 
 either-mono : (a b c : Bool) → Implies b c → Implies (a || b) (a || c)
 either-mono true b c h e = refl
 either-mono false b c h e = h e
-
-covered-mono : (c : ℕ) (ls : List Layer) (x y : ℤ) → Implies (covered (without c ls) x y) (covered ls x y)
-covered-mono c [] x y = λ h. h
-covered-mono c (l ∷ ls) x y = go (covered-mono c ls x y) (eqb (l .client) c)
-  where
-    go : Implies (covered (without c ls) x y) (covered ls x y) → (t : Bool) → Implies (covered (cond t (without c ls) (l ∷ without c ls)) x y) (covers l x y || covered ls x y)
-    go ih true h = or-right (covers l x y) (covered ls x y) (ih h)
-    go ih false h = either-mono (covers l x y) (covered (without c ls) x y) (covered ls x y) ih h
 
 any-mono : (f g : ℕ → Bool) → ((k : ℕ) → Implies (f k) (g k)) → (n : ℕ) → Implies (any-below f n) (any-below g n)
 any-mono f g h zero e = e
@@ -140,37 +131,43 @@ obscured-mono false on false after h = λ e. e
 obscured-mono true true false after h = λ e. absurd (false≢true e)
 obscured-mono true false false after h = λ e. e
 
-hidden-mono : (screen : Size) (c : ℕ) (ls : List Layer) (l : Layer) (i j : ℕ) → Implies (hidden screen (without c ls) l i j) (hidden screen ls l i j)
-unfolding hidden
-hidden-mono screen c ls l i j =
-    any-mono _ _ (λ v. any-mono _ _ (λ u.
-    obscured-mono (ltb (16 * i + u) (l .pixels .width) && ltb (16 * j + v) (l .pixels .height)) (inside screen (l .x +ℤ pos (16 * i + u)) (l .y +ℤ pos (16 * j + v)))
-    (covered (without c ls) (l .x +ℤ pos (16 * i + u)) (l .y +ℤ pos (16 * j + v))) (covered ls (l .x +ℤ pos (16 * i + u)) (l .y +ℤ pos (16 * j + v)))
-    (covered-mono c ls (l .x +ℤ pos (16 * i + u)) (l .y +ℤ pos (16 * j + v)))) 16) 16
+module _ (keeps : ℕ → Bool) where
+  covered-mono : (ls : List Layer) (x y : ℤ) → Implies (covered (keep keeps ls) x y) (covered ls x y)
+  covered-mono [] x y = λ h. h
+  covered-mono (l ∷ ls) x y = go (covered-mono ls x y) (keeps (l .client))
+    where
+      go : Implies (covered (keep keeps ls) x y) (covered ls x y) → (t : Bool) → Implies (covered (cond t (l ∷ keep keeps ls) (keep keeps ls)) x y) (covers l x y || covered ls x y)
+      go ih true h = either-mono (covers l x y) (covered (keep keeps ls) x y) (covered ls x y) ih h
+      go ih false h = or-right (covers l x y) (covered ls x y) (ih h)
 
-hidden-in-mono : (screen : Size) (c : ℕ) (ls : List Layer) (k i j : ℕ) → eqb k c ≡ false → Implies (hidden-in screen (without c ls) k i j) (hidden-in screen ls k i j)
-hidden-in-mono screen c [] k i j n = λ h. h
-hidden-in-mono screen c (l ∷ ls) k i j n = go (hidden-in-mono screen c ls k i j n) (eqb (l .client) c) refl
-  where
-    go : Implies (hidden-in screen (without c ls) k i j) (hidden-in screen ls k i j) → (t : Bool) → eqb (l .client) c ≡ t
-        → Implies (hidden-in screen (cond t (without c ls) (l ∷ without c ls)) k i j) (cond (eqb (l .client) k) (hidden screen ls l i j) (hidden-in screen ls k i j))
-    go ih true e = λ h. let other : eqb (l .client) k ≡ false = grind (arith, tells) in rw other (ih h)
-    go ih false e = by (eqb (l .client) k)
-      where
-        by : (b : Bool) → Implies (cond b (hidden screen (without c ls) l i j) (hidden-in screen (without c ls) k i j)) (cond b (hidden screen ls l i j) (hidden-in screen ls k i j))
-        by true = hidden-mono screen c ls l i j
-        by false = ih
+  hidden-mono : (screen : Size) (ls : List Layer) (l : Layer) (i j : ℕ) → Implies (hidden screen (keep keeps ls) l i j) (hidden screen ls l i j)
+  unfolding hidden
+  hidden-mono screen ls l i j =
+      any-mono _ _ (λ v. any-mono _ _ (λ u.
+      obscured-mono (ltb (16 * i + u) (l .pixels .width) && ltb (16 * j + v) (l .pixels .height)) (inside screen (l .x +ℤ pos (16 * i + u)) (l .y +ℤ pos (16 * j + v)))
+      (covered (keep keeps ls) (l .x +ℤ pos (16 * i + u)) (l .y +ℤ pos (16 * j + v))) (covered ls (l .x +ℤ pos (16 * i + u)) (l .y +ℤ pos (16 * j + v)))
+      (covered-mono ls (l .x +ℤ pos (16 * i + u)) (l .y +ℤ pos (16 * j + v)))) 16) 16
 
-count-without : (f g : ℕ → ℕ → ℕ → Bool) (c : ℕ) → ((k i j : ℕ) → eqb k c ≡ false → Implies (f k i j) (g k i j)) → (ls : List Layer) → count-patches f (without c ls) ≤ count-patches g ls
-count-without f g c h [] = omega arith
-count-without f g c h (l ∷ ls) = go (count-without f g c h ls) (eqb (l .client) c) refl
-  where
-    go : count-patches f (without c ls) ≤ count-patches g ls → (t : Bool) → eqb (l .client) c ≡ t → count-patches f (cond t (without c ls) (l ∷ without c ls)) ≤ patches-in (g (l .client)) l + count-patches g ls
-    go ih true e = omega arith
-    go ih false e = omega (arith, patches-mono (f (l .client)) (g (l .client)) l (λ i j. h (l .client) i j e))
+  hidden-in-mono : (screen : Size) (ls : List Layer) (c i j : ℕ) → keeps c ≡ true → Implies (hidden-in screen (keep keeps ls) c i j) (hidden-in screen ls c i j)
+  hidden-in-mono screen [] c i j k = λ h. h
+  hidden-in-mono screen (l ∷ ls) c i j k = go (hidden-in-mono screen ls c i j k) (keeps (l .client)) refl (eqb (l .client) c) refl
+    where
+      go : Implies (hidden-in screen (keep keeps ls) c i j) (hidden-in screen ls c i j) → (t : Bool) → keeps (l .client) ≡ t → (b : Bool) → eqb (l .client) c ≡ b
+          → Implies (hidden-in screen (cond t (l ∷ keep keeps ls) (keep keeps ls)) c i j) (cond b (hidden screen ls l i j) (hidden-in screen ls c i j))
+      go ih true e true q = rw q (hidden-mono screen ls l i j)
+      go ih true e false q = rw q ih
+      go ih false e true q = λ h. absurd (true≢false (sym k ∙ ap keeps (sym (eqb-true (l .client) c q)) ∙ e))
+      go ih false e false q = ih
 
--- Without a layer no more patches are hidden than with it.
-pub hidden-without : (c : ℕ) (d : Desk) → hidden-count (with-layers d (without c (d .layers))) ≤ hidden-count d
-unfolding hidden-count
-hidden-without c d =
-    count-without (hidden-in (d .size) (without c (d .layers))) (hidden-in (d .size) (d .layers)) c (hidden-in-mono (d .size) c (d .layers)) (d .layers)
+  count-keep : (f g : ℕ → ℕ → ℕ → Bool) → ((c i j : ℕ) → keeps c ≡ true → Implies (f c i j) (g c i j)) → (ls : List Layer) → count-patches f (keep keeps ls) ≤ count-patches g ls
+  count-keep f g h [] = omega arith
+  count-keep f g h (l ∷ ls) = go (count-keep f g h ls) (keeps (l .client)) refl
+    where
+      go : count-patches f (keep keeps ls) ≤ count-patches g ls → (t : Bool) → keeps (l .client) ≡ t → count-patches f (cond t (l ∷ keep keeps ls) (keep keeps ls)) ≤ patches-in (g (l .client)) l + count-patches g ls
+      go ih true e = omega (arith, patches-mono (f (l .client)) (g (l .client)) l (λ i j. h (l .client) i j e))
+      go ih false e = omega arith
+
+  -- With some layers less no more patches are hidden.
+  pub hidden-keep : (d : Desk) → hidden-count (with-layers d (keep keeps (d .layers))) ≤ hidden-count d
+  unfolding hidden-count
+  hidden-keep d = count-keep (hidden-in (d .size) (keep keeps (d .layers))) (hidden-in (d .size) (d .layers)) (hidden-in-mono (d .size) (d .layers)) (d .layers)

@@ -13,7 +13,7 @@ use Rattle.raster.specs.Picture.{Picture, sizes}
 use Rattle.raster.specs.Calls.{first-fault}
 use Rattle.raster.specs.declared.refusal.Refusal.the-variants.{ClientAboveSeven}
 use Rattle.paper.specs.declared.DeskFault.{DeskFault}
-use Rattle.paper.specs.Layers.{Desk, Layer, or-blank, pixels-of, pane, paint, with-pixels, with-layers, screen-after}
+use Rattle.paper.specs.Layers.{Desk, Layer, or-blank, pixels-of, pane, alter, with-pixels, with-layers, screen-after}
 use Rattle.paper.specs.Desk.{Call, open-layer, close-layer, raise-layer, lower-layer, move-layer, fill-layer, scroll-layer, stamp-layer, read-layer, client-of, repaint, because, fault-of, after}
 use Rattle.paper.specs.House.{draws, refused-for-host, outer-after}
 use Rattle.paper.proofs.Layers.{repainted, paint-same}
@@ -94,23 +94,25 @@ pane-stays host d call = ap₂ (λ s o. or-blank (s .depth) o) (outer-size host 
 -- ── Painting on a pane ──
 
 -- Of two paintings the later one stands.
-paint-again : (c : ℕ) (p q : Picture) (ls : List Layer) → paint c q (paint c p ls) ≡ paint c q ls
+paint-again : (c : ℕ) (p q : Picture) (ls : List Layer) → alter c (with-pixels q) (alter c (with-pixels p) ls) ≡ alter c (with-pixels q) ls
 paint-again c p q [] = refl
 paint-again c p q (l ∷ ls) = go (paint-again c p q ls) (eqb (l .client) c) refl
   where
-    go : paint c q (paint c p ls) ≡ paint c q ls → (b : Bool) → eqb (l .client) c ≡ b → paint c q (cond b (with-pixels l p ∷ ls) (l ∷ paint c p ls)) ≡ cond b (with-pixels l q ∷ ls) (l ∷ paint c q ls)
-    go ih true e = ap (λ b. cond b (with-pixels l q ∷ ls) (with-pixels l p ∷ paint c q ls)) e
-    go ih false e = ap (λ b. cond b (with-pixels l q ∷ paint c p ls) (l ∷ paint c q (paint c p ls))) e ∙ ap (λ ms. l ∷ ms) ih
+    go : alter c (with-pixels q) (alter c (with-pixels p) ls) ≡ alter c (with-pixels q) ls → (b : Bool) → eqb (l .client) c ≡ b
+        → alter c (with-pixels q) (cond b (with-pixels p l ∷ ls) (l ∷ alter c (with-pixels p) ls)) ≡ cond b (with-pixels q l ∷ ls) (l ∷ alter c (with-pixels q) ls)
+    go ih true e = rw e refl
+    go ih false e = rw e (ap (λ ms. l ∷ ms) ih)
 
 pub repaint-again : (c : ℕ) (p q : Picture) (d : Desk) → repaint c q (repaint c p d) ≡ repaint c q d
 repaint-again c p q d = ap (with-layers d) (paint-again c p q (d .layers))
 
 -- To paint a layer with its own pixels changes nothing.
-paint-own : (c depth : ℕ) (ls : List Layer) → paint c (or-blank depth (pixels-of c ls)) ls ≡ ls
+paint-own : (c depth : ℕ) (ls : List Layer) → alter c (with-pixels (or-blank depth (pixels-of c ls))) ls ≡ ls
 paint-own c depth [] = refl
 paint-own c depth (l ∷ ls) = go (paint-own c depth ls) (eqb (l .client) c)
   where
-    go : paint c (or-blank depth (pixels-of c ls)) ls ≡ ls → (b : Bool) → cond b (with-pixels l (or-blank depth (cond b (Some (l .pixels)) (pixels-of c ls))) ∷ ls) (l ∷ paint c (or-blank depth (cond b (Some (l .pixels)) (pixels-of c ls))) ls) ≡ l ∷ ls
+    go : alter c (with-pixels (or-blank depth (pixels-of c ls))) ls ≡ ls → (b : Bool)
+        → cond b (with-pixels (or-blank depth (cond b (Some (l .pixels)) (pixels-of c ls))) l ∷ ls) (l ∷ alter c (with-pixels (or-blank depth (cond b (Some (l .pixels)) (pixels-of c ls)))) ls) ≡ l ∷ ls
     go ih true = refl
     go ih false = ap (λ ms. l ∷ ms) ih
 

@@ -14,7 +14,7 @@ use Rattle.raster.specs.Blt.{from-picture, count, blt}
 use Rattle.raster.specs.Calls.{Bitmap-call, read-at, fill-with, scroll-by, refuse-if, first-fault, unless, if-refused, bitmap-fault, bitmap-value, bitmap-change}
 use Rattle.raster.specs.declared.refusal.Refusal.the-variants.{NotOpen, ValueTooLarge}
 use Rattle.paper.specs.declared.DeskFault.{DeskFault}
-use Rattle.paper.specs.Layers.{Desk, Layer, with-layers, blank, or-else, or-blank, pixels-of, pane, paint}
+use Rattle.paper.specs.Layers.{Desk, Layer, with-layers, blank, or-else, or-blank, pixels-of, pane}
 use Rattle.paper.specs.Desk.{Call, open-layer, close-layer, raise-layer, lower-layer, move-layer, fill-layer, scroll-layer, stamp-layer, read-layer, client-of, new-layer, repaint, change, accepted-value, because, carried, no-client, no-rule, fault-of, Answer, answer, after}
 use Rattle.paper.specs.Run.{accepted, if-drawing}
 use Rattle.paper.proofs.Layers.{repainted, pixels-++, without-same, without-other, paint-same, paint-other, place-any, raised-any, lowered-any, or-else-none}

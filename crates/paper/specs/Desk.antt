@@ -14,7 +14,7 @@ use Rattle.raster.specs.declared.refusal.Refusal.{Refusal}
 use Rattle.raster.specs.declared.refusal.Refusal.the-variants.{ClientAboveSeven, NotOpen, AlreadyOpen, OpenBeyondSize, RuleAboveFifteen, ValueTooLarge, OutsideBitmap, TooFewSlots}
 use Rattle.raster.specs.declared.fault.Fault.{Fault}
 use Rattle.paper.specs.declared.DeskFault.{DeskFault}
-use Rattle.paper.specs.Layers.{Desk, Layer, with-layers, blank, topmost, is-open, pane, only, without, paint, place}
+use Rattle.paper.specs.Layers.{Desk, Layer, with-layers, blank, topmost, is-open, pane, only, without, alter, with-pixels, at-corner}
 use Rattle.paper.specs.Slots.{hidden-count, slots-needed}
 
 -- The calls with their arguments. A transfer has the rule, both corners and the size of a BitBlt.
@@ -45,7 +45,7 @@ client-of (read-layer c x y) = c
 
 -- A desk with other pixels in a client's layer.
 abbrev pub repaint : ℕ → Picture → Desk → Desk
-repaint c p d = with-layers d (paint c p (d .layers))
+repaint c p d = with-layers d (alter c (with-pixels p) (d .layers))
 
 -- A layer of zeros.
 abbrev pub new-layer : (depth client : ℕ) (x y : ℤ) (w h : ℕ) → Layer
@@ -57,7 +57,7 @@ change d (open-layer c x y w h) = with-layers d (d .layers ++ (new-layer (d .siz
 change d (close-layer c) = with-layers d (without c (d .layers))
 change d (raise-layer c) = with-layers d (without c (d .layers) ++ only c (d .layers))
 change d (lower-layer c) = with-layers d (only c (d .layers) ++ without c (d .layers))
-change d (move-layer c x y) = with-layers d (place c x y (d .layers))
+change d (move-layer c x y) = with-layers d (alter c (at-corner x y) (d .layers))
 change d (fill-layer c rule v x y w h) = repaint c (bitmap-change (pane c d) (fill-with rule v x y w h)) d
 change d (scroll-layer c t) = repaint c (bitmap-change (pane c d) (scroll-by t)) d
 change d (stamp-layer c t source) = repaint c (blt t (from-picture source) (pane c d)) d

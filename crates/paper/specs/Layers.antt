@@ -1,5 +1,5 @@
 -- Layers and desks on paper, and what a desk's screen shows.
-use mathlib.Core.Bool.{Bool, true, false, cond, _&&_, _||_}
+use mathlib.Core.Bool.{Bool, true, false, cond, not, _&&_, _||_}
 use mathlib.Core.List.{List, [], _∷_}
 use Prim.Native.Nat.{ℕ}
 use lib.Dec.{eqb}
@@ -103,26 +103,25 @@ or-blank depth None = blank 0 0 depth
 abbrev pub pane : ℕ → Desk → Picture
 pane c d = or-blank (d .size .depth) (pixels-of c (d .layers))
 
--- The client's layer, and the other layers in their order.
+-- The layers whose client passes a test, in their order: a client's own layer, and all others.
+abbrev pub keep : (ℕ → Bool) → List Layer → List Layer
+keep test [] = []
+keep test (l ∷ ls) = cond (test (l .client)) (l ∷ keep test ls) (keep test ls)
+
 abbrev pub only : ℕ → List Layer → List Layer
-only c [] = []
-only c (l ∷ ls) = cond (eqb (l .client) c) (l ∷ only c ls) (only c ls)
+only c ls = keep (λ k. eqb c k) ls
 
 abbrev pub without : ℕ → List Layer → List Layer
-without c [] = []
-without c (l ∷ ls) = cond (eqb (l .client) c) (without c ls) (l ∷ without c ls)
+without c ls = keep (λ k. not (eqb c k)) ls
 
--- The client's layer with other pixels, or at another corner; the order is kept.
-abbrev pub with-pixels : Layer → Picture → Layer
-with-pixels l p = record { client = l .client; x = l .x; y = l .y; pixels = p }
+-- A client's layer is altered; the order is kept.
+abbrev pub alter : ℕ → (Layer → Layer) → List Layer → List Layer
+alter c f [] = []
+alter c f (l ∷ ls) = cond (eqb (l .client) c) (f l ∷ ls) (l ∷ alter c f ls)
 
-abbrev pub at-corner : Layer → ℤ → ℤ → Layer
-at-corner l x y = record { client = l .client; x = x; y = y; pixels = l .pixels }
+-- The same layer with other pixels, or at another corner.
+abbrev pub with-pixels : Picture → Layer → Layer
+with-pixels p l = record { client = l .client; x = l .x; y = l .y; pixels = p }
 
-abbrev pub paint : ℕ → Picture → List Layer → List Layer
-paint c p [] = []
-paint c p (l ∷ ls) = cond (eqb (l .client) c) (with-pixels l p ∷ ls) (l ∷ paint c p ls)
-
-abbrev pub place : ℕ → ℤ → ℤ → List Layer → List Layer
-place c x y [] = []
-place c x y (l ∷ ls) = cond (eqb (l .client) c) (at-corner l x y ∷ ls) (l ∷ place c x y ls)
+abbrev pub at-corner : ℤ → ℤ → Layer → Layer
+at-corner x y l = record { client = l .client; x = x; y = y; pixels = l .pixels }
