@@ -1,5 +1,4 @@
 -- Layers keep apart.
-use Rattle.raster.specs.declared.size.Size.{Size}
 use Rattle.paper.specs.Run.{new-state}
 use Rattle.paper.specs.Apart.{Layers-keep-apart}
 use Rattle.paper.proofs.Runs.{runs-keep-apart}

@@ -4,9 +4,7 @@ use mathlib.Core.Bool.{Bool, true, false, cond}
 use mathlib.Core.List.{List, [], _∷_, _++_}
 use Prim.Native.Nat.{ℕ}
 use lib.Dec.{eqb}
-use lib.IntN.{ℤ}
-use Rattle.std.specs.declared.option.Option.{Option}
-use Rattle.std.specs.declared.option.Option.the-variants.{Some, None}
+use Rattle.std.specs.declared.option.Option.the-variants.{Some}
 use Rattle.raster.specs.Picture.{Picture}
 use Rattle.raster.specs.Blt.{Transfer, Source, blt}
 use Rattle.paper.specs.Layers.{Desk, Layer, or-blank, pixels-of, pane, keep, only, without, alter, with-pixels, at-corner}

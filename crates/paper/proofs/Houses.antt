@@ -16,7 +16,7 @@ use Rattle.raster.specs.declared.size.Size.{Size}
 use Rattle.paper.specs.Layers.{Desk, pixels-of, pane, screen-of}
 use Rattle.paper.specs.Slots.{hidden-count}
 use Rattle.paper.specs.Desk.{Call, client-of, repaint, because, Answer, answer, after}
-use Rattle.paper.specs.Run.{State, new-state, called, elsewhere, Step, end-of, Run, layer-of}
+use Rattle.paper.specs.Run.{State, new-state, called, elsewhere, Step, end-of, layer-of}
 use Rattle.paper.specs.House as house
 use Rattle.paper.specs.House.{refused-for-host, outer-answer, outer-after, House, Stands-on, Outer-does, House-call, for-outer, for-inner, House-step, Mixed, House-run, outer-view, inner-view, outer-steps, inner-steps, house-end}
 use Rattle.paper.specs.Apart.{Settled, Inner-screen-stays, House-runs-keep-apart}

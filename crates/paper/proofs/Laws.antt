@@ -2,33 +2,32 @@
 use mathlib.Core.Path.{_≡_, refl, sym, _∙_, ap, ap₂, subst}
 use mathlib.Core.Bool.{Bool, true, false, cond, not}
 use mathlib.Core.List.{List, [], _∷_, _++_}
-use mathlib.Core.Logic.{⊎-elim}
 use Prim.Native.Nat.{ℕ, _+_, _≤_, _<_}
 use native.Mathlib.Omega.{arith}
-use lib.Dec.{eqb, ltb}
+use lib.Dec.{eqb}
 use lib.IntN.{ℤ}
 use lib.ListN.{length}
-use Rattle.std.proofs.shelf.Tests.{eq-eqb, eqb-true, ltb-false, cases-bool}
+use Rattle.std.proofs.shelf.Tests.{eq-eqb, eqb-true, lt-ltb, ltb-false}
 use Rattle.std.specs.Options.{isSome}
 use Rattle.std.specs.declared.option.Option.{Option}
 use Rattle.std.specs.declared.option.Option.the-variants.{Some, None}
-use Rattle.std.specs.declared.result.Result.{Result}
 use Rattle.std.specs.declared.result.Result.the-variants.{Ok, Err}
 use Rattle.raster.specs.Picture.{Picture, sizes}
 use Rattle.raster.specs.Blt.{Transfer, Source, blt}
-use Rattle.raster.specs.Calls.{refuse-if, first-fault, unless, if-refused}
+use Rattle.raster.specs.Calls.{refuse-if, first-fault}
 use Rattle.raster.specs.declared.refusal.Refusal.the-variants.{NotOpen}
 use Rattle.raster.specs.declared.size.Size.{Size}
 use Rattle.raster.proofs.Paints.{painted-sizes}
 use Rattle.paper.specs.declared.DeskFault.{DeskFault}
-use Rattle.paper.specs.Layers.{Desk, Layer, with-layers, or-else, pixels-of, pane, only, without, alter, with-pixels, at-corner}
+use Rattle.paper.specs.Layers.{Desk, Layer, with-layers, or-else, pixels-of, is-open, pane, only, without, alter, with-pixels, at-corner}
 use Rattle.paper.specs.Slots.{hidden-count, slots-needed}
-use Rattle.paper.specs.Desk.{Call, open-layer, close-layer, raise-layer, lower-layer, move-layer, fill-layer, scroll-layer, stamp-layer, read-layer, new-layer, repaint, change, because, no-client, not-open, already-open, beyond-size, too-few-slots, fault-of, answer, after}
+use Rattle.paper.specs.Desk.{Call, open-layer, close-layer, raise-layer, lower-layer, move-layer, fill-layer, scroll-layer, stamp-layer, read-layer, client-of, new-layer, repaint, change, because, no-client, not-open, already-open, beyond-size, too-few-slots, fault-of, answer, after}
 use Rattle.paper.specs.Run.{new-state, Step, end-of, Run}
 use Rattle.paper.specs.Laws.{Desk-laws}
-use Rattle.paper.proofs.View.{after-either, answer-refused, answer-accepted, after-accepted, slots-stay}
+use Rattle.paper.proofs.View.{after-either, answer-refused, answer-accepted, after-accepted, other-stays, slots-stay}
 use Rattle.paper.proofs.Layers.{pixels-++}
 use Rattle.paper.proofs.Order.{raised-raised, raised-lowered, placed-back, layers-of, layers-++, layers-split, layers-alter, none-only, opened-closed}
+use Rattle.paper.proofs.Pane.{above-seven}
 use Rattle.paper.proofs.Hidden.{clear-shows, shown-clear}
 use Rattle.paper.proofs.Outline.{repaint-hidden, hidden-needed, hidden-keep}
 use Rattle.paper.proofs.Screen.{covered-shows, uncovered-clears, untouched-stays, outside-stays}
@@ -86,6 +85,20 @@ open-close d c x y w h n e =
     let f = no-fault d (open-layer c x y w h) n e in
     ap (λ p. after p (close-layer c)) (after-accepted d (open-layer c x y w h) f)
     ∙ closes d c (new-layer (d .size .depth) c x y w h) refl (may-open d c x y w h f)
+
+-- ── Clients above 7 ──
+
+abbrev Known : Desk → Type 0
+Known d = (c : ℕ) → 7 < c → is-open c d ≡ false
+
+known-after : (d : Desk) (call : Call) → Known d → Known (after d call)
+known-after d call k c h = go (eqb (client-of call) c) refl
+  where
+    go : (b : Bool) → eqb (client-of call) c ≡ b → is-open c (after d call) ≡ false
+    go true e =
+        let same : client-of call ≡ c = eqb-true (client-of call) c e in
+        ap (is-open c) (above-seven d call (lt-ltb 7 (client-of call) (omega arith))) ∙ k c h
+    go false e = ap isSome (other-stays c d call e) ∙ k c h
 
 -- ── One layer for a client ──
 
@@ -180,6 +193,7 @@ desk-laws = record {
   uncovered-clears = uncovered-clears;
   untouched-stays = untouched-stays;
   outside-stays = outside-stays;
+  known-clients = λ size slots steps r. run-keeps Known known-after r (λ c h. refl);
   one-layer = λ size slots steps r. run-keeps Single single-after r (λ k. omega arith);
   enough-slots = run-enough;
 }

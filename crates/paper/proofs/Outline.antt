@@ -1,9 +1,9 @@
 -- What is hidden depends on the outlines of the layers alone, and never passes the number of slots.
-use mathlib.Core.Path.{_≡_, refl, sym, _∙_, ap, ap₂, subst, fun-ext}
+use mathlib.Core.Path.{_≡_, refl, sym, _∙_, ap, ap₂, fun-ext}
 use mathlib.Core.Bool.{Bool, true, false, cond, not, _&&_, _||_}
 use mathlib.Core.List.{List, [], _∷_}
 use mathlib.Core.Logic.{⊎-elim}
-use Prim.Native.Nat.{ℕ, zero, suc, _+_, _*_, _≤_, _<_}
+use Prim.Native.Nat.{ℕ, zero, suc, _+_, _*_, _≤_}
 use native.Mathlib.Omega.{arith}
 use lib.Dec.{eqb, ltb}
 use lib.IntN.{ℤ, pos, _+ℤ_}
@@ -15,7 +15,7 @@ use Rattle.raster.specs.Blt.{in-rectangle, inside}
 use Rattle.raster.specs.Calls.{any-below}
 use Rattle.raster.specs.declared.size.Size.{Size}
 use Rattle.paper.specs.Layers.{Desk, Layer, with-layers, covers, covered, pixels-of, keep, alter, with-pixels, or-blank, pane}
-use Rattle.paper.specs.Slots.{obscured, hidden, hidden-in, patches-along, patches-in, count-patches, hidden-count, slots-needed}
+use Rattle.paper.specs.Slots.{hidden, hidden-in, patches-along, patches-in, count-patches, hidden-count, slots-needed}
 use Rattle.paper.specs.Desk.{repaint}
 use Rattle.paper.specs.Run.{Alike, none, more}
 

@@ -9,7 +9,7 @@ use Rattle.std.proofs.shelf.Tests.{eqb-true, and-parts}
 use Rattle.std.proofs.shelf.Ways.{tells}
 use Rattle.std.specs.declared.option.Option.{Option}
 use Rattle.std.specs.declared.option.Option.the-variants.{Some, None}
-use Rattle.raster.specs.Picture.{Picture, sizes}
+use Rattle.raster.specs.Picture.{Picture}
 use Rattle.raster.specs.Calls.{first-fault}
 use Rattle.raster.specs.declared.refusal.Refusal.the-variants.{ClientAboveSeven}
 use Rattle.paper.specs.declared.DeskFault.{DeskFault}
@@ -36,7 +36,6 @@ outer-size host d call = go (refused-for-host host call)
     go true = refl
     go false = size-stays d call
 
--- a call of a client above 7 changes nothing
 first-fails : (b : Bool) (f : DeskFault) (more : List (Option DeskFault)) → b ≡ true → first-fault (cond b (Some f) None ∷ more) ≡ Some f
 first-fails b f more e = ap (λ x. first-fault (cond x (Some f) None ∷ more)) e
 
@@ -51,7 +50,8 @@ fault-above d (scroll-layer c t) e = first-fails (ltb 7 c) _ _ e
 fault-above d (stamp-layer c t source) e = first-fails (ltb 7 c) _ _ e
 fault-above d (read-layer c x y) e = first-fails (ltb 7 c) _ _ e
 
-above-seven : (d : Desk) (call : Call) → ltb 7 (client-of call) ≡ true → after d call ≡ d
+-- A call of a client above 7 changes nothing.
+pub above-seven : (d : Desk) (call : Call) → ltb 7 (client-of call) ≡ true → after d call ≡ d
 above-seven d call h = after-refused d call _ (fault-above d call h)
 
 -- a raise, a lower, a move and a read leave the client's own pixels

@@ -1,7 +1,7 @@
 -- Every picture that a desk draws is 0 outside its size, and BitBlt reads no pixel outside its source.
 -- So pictures that agree at every pixel can take one another's place.
-use mathlib.Core.Path.{_≡_, refl, sym, _∙_, ap, ap₂}
-use mathlib.Core.Bool.{Bool, true, false, cond, _&&_}
+use mathlib.Core.Path.{_≡_, refl, sym, _∙_, ap}
+use mathlib.Core.Bool.{Bool, true, false, _&&_}
 use Prim.Native.Nat.{ℕ, _<_}
 use native.Mathlib.Omega.{arith}
 use lib.IntN.{ℤ, pos, negsuc, natAbs}
@@ -12,7 +12,7 @@ use Rattle.raster.specs.Rules.{combined}
 use Rattle.raster.specs.Picture.{Picture, sizes, painted}
 use Rattle.raster.specs.Blt.{Transfer, Source, from-picture, holds, in-rectangle, inside, behind, concerned, count, blt}
 use Rattle.raster.specs.declared.size.Size.{Size}
-use Rattle.raster.proofs.Paints.{same-picture, painted-at, painted-same}
+use Rattle.raster.proofs.Paints.{same-picture, painted-same}
 use Rattle.paper.specs.Layers.{blank}
 use Rattle.paper.specs.Run.{Same-picture}
 

@@ -1,11 +1,9 @@
 -- Every list of calls has a run, on a desk and in a house.
-use mathlib.Core.Path.{_≡_, refl, sym, _∙_, ap, subst}
+use mathlib.Core.Path.{_≡_, refl, sym, ap, subst}
 use mathlib.Core.List.{List, [], _∷_}
 use Prim.Native.Nat.{ℕ}
-use Rattle.std.specs.declared.option.Option.{Option}
-use Rattle.std.specs.declared.option.Option.the-variants.{None}
-use Rattle.raster.specs.Picture.{Picture, sizes}
-use Rattle.paper.specs.Layers.{Desk, blank, or-blank, pixels-of, pane, screen-after}
+use Rattle.raster.specs.Picture.{sizes}
+use Rattle.paper.specs.Layers.{Desk, blank, or-blank, pane, screen-after}
 use Rattle.paper.specs.Slots.{hidden-count}
 use Rattle.paper.specs.Desk.{Call, repaint, answer, after}
 use Rattle.paper.specs.Run.{State, new-state, Becomes, called, Step, end-of, Run, ends, calls, calls-in}

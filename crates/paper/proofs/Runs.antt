@@ -4,22 +4,20 @@ use mathlib.Core.Bool.{Bool, true, false, cond}
 use mathlib.Core.List.{List, [], _∷_, _++_, append-nil}
 use Prim.Native.Nat.{ℕ}
 use lib.Dec.{eqb}
-use lib.IntN.{pos}
 use Rattle.std.proofs.shelf.Tests.{eqb-true}
 use Rattle.std.specs.declared.option.Option.{Option}
 use Rattle.std.specs.declared.option.Option.the-variants.{None}
 use Rattle.raster.specs.Picture.{Picture, sizes}
-use Rattle.raster.specs.Blt.{inside}
 use Rattle.raster.specs.declared.size.Size.{Size}
-use Rattle.paper.specs.Layers.{Desk, pixels-of, shown, screen-of}
+use Rattle.paper.specs.Layers.{Desk, pixels-of, screen-of}
 use Rattle.paper.specs.Slots.{hidden-in, count-patches, hidden-count}
 use Rattle.paper.specs.Desk.{Call, client-of, Answer, answer, after}
-use Rattle.paper.specs.Run.{State, new-state, Does, Event, called, elsewhere, Step, end-of, Run, ends, calls, own-call, own-open, own-answer, if-open, if-drawing, accepted, layer-of}
-use Rattle.paper.specs.Apart.{Same-part, Same-view, Same-layers, Same-screen, Shows, Isolated, Settled, Runs-keep-apart}
+use Rattle.paper.specs.Run.{State, new-state, Does, called, elsewhere, Step, end-of, Run, ends, calls, if-open, if-drawing, accepted, layer-of}
+use Rattle.paper.specs.Apart.{Shows, Settled, Runs-keep-apart}
 use Rattle.paper.proofs.View.{own-answers, own-next, answers-are, next-is, other-stays, size-stays}
 use Rattle.paper.proofs.Clean.{All-clean, same-layers, clean-after}
 use Rattle.paper.proofs.Screen.{True-to-paper, new-true, stays-true}
-use Rattle.paper.proofs.Trace.{Quiet, Own, Trace, done, quiet, own, same-view}
+use Rattle.paper.proofs.Trace.{Quiet, Trace, done, quiet, own, same-view}
 
 -- ── A run as one client sees it ──
 

@@ -1,13 +1,13 @@
 -- Layers keep apart: what one client sees of its layer does not depend on the other clients,
 -- and what the screen shows depends on the layers alone.
 use mathlib.Core.Path.{_≡_}
-use mathlib.Core.Bool.{Bool, cond}
+use mathlib.Core.Bool.{cond}
 use mathlib.Core.List.{List, _∷_, _++_}
 use mathlib.Core.Logic.{_≢_}
 use Prim.Native.Nat.{ℕ}
 use lib.ListN.{length, take}
 use lib.IntN.{pos}
-use Rattle.raster.specs.Picture.{Picture, sizes}
+use Rattle.raster.specs.Picture.{sizes}
 use Rattle.raster.specs.Blt.{inside}
 use Rattle.raster.specs.declared.size.Size.{Size}
 use Rattle.paper.specs.Layers.{shown}

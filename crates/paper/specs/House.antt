@@ -5,7 +5,7 @@ use mathlib.Core.List.{List, [], _∷_, _++_}
 use Prim.Native.Nat.{ℕ}
 use lib.Dec.{eqb, leb}
 use Rattle.std.specs.declared.result.Result.the-variants.{Err}
-use Rattle.raster.specs.Picture.{Picture, sizes}
+use Rattle.raster.specs.Picture.{sizes}
 use Rattle.raster.specs.declared.refusal.Refusal.the-variants.{Host}
 use Rattle.paper.specs.Layers.{Desk, pane}
 use Rattle.paper.specs.Desk.{Call, open-layer, close-layer, raise-layer, lower-layer, move-layer, fill-layer, scroll-layer, stamp-layer, read-layer, client-of, repaint, because, Answer, answer, after}

@@ -2,7 +2,7 @@
 use mathlib.Core.Path.{_≡_}
 use mathlib.Core.Bool.{true, false, cond}
 use mathlib.Core.List.{List, [], _∷_}
-use Prim.Native.Nat.{ℕ, _≤_}
+use Prim.Native.Nat.{ℕ, _≤_, _<_}
 use lib.Dec.{eqb}
 use lib.ListN.{length}
 use lib.IntN.{ℤ, pos}
@@ -13,7 +13,7 @@ use Rattle.raster.specs.Picture.{Picture, sizes}
 use Rattle.raster.specs.Blt.{inside}
 use Rattle.raster.specs.declared.size.Size.{Size}
 use Rattle.paper.specs.declared.DeskFault.{DeskFault}
-use Rattle.paper.specs.Layers.{Desk, Layer, covers, covered, shown, screen-after, only}
+use Rattle.paper.specs.Layers.{Desk, Layer, covers, covered, shown, screen-after, is-open, only}
 use Rattle.paper.specs.Slots.{hidden}
 use Rattle.paper.specs.Desk.{Call, open-layer, close-layer, raise-layer, lower-layer, move-layer, change, answer, after}
 use Rattle.paper.specs.Run.{new-state, Step, end-of, Run}
@@ -59,7 +59,10 @@ pub record Desk-laws : Type 0 where
       → screen-after screen before after .at x y ≡ screen .at x y
   pub outside-stays : (screen : Picture) (before after : Desk) (x y : ℕ) → inside (sizes screen) (pos x) (pos y) ≡ false
       → screen-after screen before after .at x y ≡ screen .at x y
-  -- in every run of a new desk a client has at most one layer, and the slots in use are at most those there are
+  -- in every run of a new desk no client above 7 has a layer, a client has at most one, and the slots in use are at
+  -- most those there are
+  pub known-clients : (size : Size) (slots : ℕ) (steps : List Step) → Run (new-state size slots) steps
+      → (c : ℕ) → 7 < c → is-open c (end-of (new-state size slots) steps .paper) ≡ false
   pub one-layer : (size : Size) (slots : ℕ) (steps : List Step) → Run (new-state size slots) steps
       → (c : ℕ) → length (only c (end-of (new-state size slots) steps .paper .layers)) ≤ 1
   pub enough-slots : (size : Size) (slots : ℕ) (steps : List Step) → Run (new-state size slots) steps

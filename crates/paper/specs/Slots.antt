@@ -1,9 +1,9 @@
 -- Patches and slots: which patches of a layer are hidden, and how many slots a desk needs.
-use mathlib.Core.Bool.{Bool, true, false, cond, not, _&&_, _||_}
+use mathlib.Core.Bool.{Bool, false, cond, not, _&&_, _||_}
 use mathlib.Core.List.{List, [], _∷_}
 use Prim.Native.Nat.{ℕ, _+_, _*_, _/_}
 use lib.Dec.{eqb, ltb}
-use lib.IntN.{ℤ, pos, _+ℤ_}
+use lib.IntN.{pos, _+ℤ_}
 use Rattle.raster.specs.Rules.{total}
 use Rattle.raster.specs.Blt.{inside}
 use Rattle.raster.specs.Calls.{any-below}
