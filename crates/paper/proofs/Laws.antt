@@ -25,12 +25,12 @@ use Rattle.paper.specs.Desk.{Call, open-layer, close-layer, raise-layer, lower
 use Rattle.paper.specs.Run.{new-state, Step, end-of, Run}
 use Rattle.paper.specs.Laws.{Desk-laws}
 use Rattle.paper.proofs.View.{after-either, answer-refused, answer-accepted, after-accepted, other-stays, slots-stay}
-use Rattle.paper.proofs.Layers.{pixels-++}
+use Rattle.paper.proofs.Layers.{not-some, pixels-++}
 use Rattle.paper.proofs.Order.{raised-raised, raised-lowered, placed-back, layers-of, layers-++, layers-split, layers-alter, none-only, opened-closed}
 use Rattle.paper.proofs.Pane.{above-seven}
 use Rattle.paper.proofs.Hidden.{clear-shows, shown-clear}
 use Rattle.paper.proofs.Outline.{repaint-hidden, hidden-needed, hidden-keep}
-use Rattle.paper.proofs.Screen.{covered-shows, uncovered-clears, untouched-stays, outside-stays}
+use Rattle.paper.proofs.Screen.{visible-shows, covered-shows, uncovered-clears, untouched-stays, outside-stays}
 use Rattle.paper.proofs.Runs.{run-keeps, run-shows}
 
 -- ── What a call that is not refused says ──
@@ -42,10 +42,6 @@ passed-first None more e = (refl, e)
 passed-test : {F : Type 0} (t : Bool) (f : F) → refuse-if t f ≡ None → t ≡ false
 passed-test true f e = cc
 passed-test false f e = refl
-
-not-some : {A : Type 0} (o : Option A) → isSome o ≡ false → o ≡ None
-not-some (Some a) e = cc
-not-some None e = refl
 
 -- an answer tells whether there was a fault
 pub no-fault : (d : Desk) (call : Call) (n : ℕ) → answer d call ≡ Ok n → fault-of d call ≡ None
@@ -185,6 +181,7 @@ desk-laws = record {
   refused-stays = refused-stays;
   clear-shows = clear-shows;
   shown-clear = shown-clear;
+  visible-shows = visible-shows;
   raise-twice = λ d c. ap (with-layers d) (raised-raised c (d .layers));
   raise-lower = λ d c. ap (with-layers d) (raised-lowered c (d .layers));
   there-and-back = λ d c x y a b e. ap (with-layers d) (placed-back c x y a b (d .layers) e);

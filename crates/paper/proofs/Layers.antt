@@ -8,10 +8,15 @@ use lib.Dec.{eqb}
 use lib.IntN.{ℤ}
 use Rattle.std.proofs.shelf.Tests.{eqb-true}
 use Rattle.std.proofs.shelf.Ways.{tells}
+use Rattle.std.specs.Options.{isSome}
 use Rattle.std.specs.declared.option.Option.{Option}
 use Rattle.std.specs.declared.option.Option.the-variants.{Some, None}
 use Rattle.raster.specs.Picture.{Picture}
 use Rattle.paper.specs.Layers.{Layer, or-else, pixels-of, keep, only, without, alter, with-pixels, at-corner}
+
+pub not-some : {A : Type 0} (o : Option A) → isSome o ≡ false → o ≡ None
+not-some (Some a) e = cc
+not-some None e = refl
 
 pub pixels-++ : (c : ℕ) (xs ys : List Layer) → pixels-of c (xs ++ ys) ≡ or-else (pixels-of c xs) (pixels-of c ys)
 pixels-++ c [] ys = refl

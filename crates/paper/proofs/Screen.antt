@@ -1,36 +1,65 @@
 -- The screen, from call to call: from a new desk on it is what the screen rule shows.
 use mathlib.Core.Path.{_≡_, refl, sym, _∙_, ap, ap₂}
-use mathlib.Core.Bool.{Bool, true, false, cond, _&&_, _||_}
-use mathlib.Core.List.{List, [], _∷_}
-use Prim.Native.Nat.{ℕ}
+use mathlib.Core.Bool.{Bool, true, false, cond, not, _&&_, _||_}
+use mathlib.Core.List.{List, [], _∷_, _++_}
+use Prim.Native.Nat.{ℕ, _<_}
 use native.Mathlib.Omega.{arith}
-use lib.IntN.{ℤ, pos}
+use lib.IntN.{ℤ, pos, natAbs, _+ℤ_, _-ℤ_}
 use Rattle.std.proofs.shelf.Signed.{ints}
 use Rattle.std.proofs.shelf.Ways.{tells}
+use Rattle.std.specs.Options.{isSome}
+use Rattle.std.specs.declared.option.Option.{Option}
 use Rattle.std.specs.declared.option.Option.the-variants.{Some, None}
-use Rattle.std.proofs.shelf.Tests.{and-left, and-right, and-from, or-left, or-right, or-from, or-parts, cond-true, cond-false}
+use Rattle.std.proofs.shelf.Tests.{and-left, and-right, and-from, and-parts, or-left, or-right, or-from, not-true, lt-ltb, cond-true, cond-false}
 use Rattle.raster.specs.Picture.{Picture, sizes, painted}
 use Rattle.raster.specs.Blt.{inside}
 use Rattle.raster.specs.declared.size.Size.{Size}
 use Rattle.raster.proofs.Paints.{same-picture, painted-sizes, painted-none}
 use Rattle.paper.specs.Layers.{Desk, Layer, or-else, covers, covered, topmost, pixel-of, shown, screen-of, screen-after}
-use Rattle.paper.specs.Slots.{hidden-count}
+use Rattle.paper.specs.Slots.{visible, hidden-count}
 use Rattle.paper.specs.Run.{State, new-state, Becomes}
+use Rattle.paper.proofs.Layers.{not-some}
 use Rattle.paper.proofs.Pictures.{Clean}
+use Rattle.paper.proofs.Hidden.{covers-pixel}
 
 pub screen-clean : (d : Desk) → Clean (screen-of d)
 unfolding screen-of
 screen-clean d x y e = ap (λ b. cond b (shown (d .layers) (pos x) (pos y)) 0) e
 
--- Where no layer covers, there is no topmost one.
+-- There is a topmost layer just where some layer covers.
+pub topmost-tells : (ls : List Layer) (x y : ℤ) → covered ls x y ≡ isSome (topmost ls x y)
+topmost-tells [] x y = refl
+topmost-tells (l ∷ ls) x y = go (topmost ls x y) (topmost-tells ls x y) (covers l x y)
+  where
+    go : (o : Option Layer) → covered ls x y ≡ isSome o → (b : Bool) → (b || covered ls x y) ≡ isSome (or-else o (cond b (Some l) None))
+    go (Some t) e true = refl
+    go (Some t) e false = e
+    go None e true = refl
+    go None e false = e
+
 pub none-topmost : (ls : List Layer) (x y : ℤ) → covered ls x y ≡ false → topmost ls x y ≡ None
-none-topmost [] x y e = refl
-none-topmost (l ∷ ls) x y e =
-    let q = or-parts (covers l x y) (covered ls x y) e in
-    ap₂ (λ o b. or-else o (cond b (Some l) None)) (none-topmost ls x y (q .1)) (q .0)
+none-topmost ls x y e = not-some (topmost ls x y) (sym (topmost-tells ls x y) ∙ e)
 
 pub none-shown : (ls : List Layer) (x y : ℤ) → covered ls x y ≡ false → shown ls x y ≡ 0
 none-shown ls x y e = ap (λ o. pixel-of o x y) (none-topmost ls x y e)
+
+-- A layer that covers a place is topmost there if no higher one covers it.
+pub topmost-is : (lower higher : List Layer) (l : Layer) (x y : ℤ) → covers l x y ≡ true → covered higher x y ≡ false → topmost (lower ++ (l ∷ higher)) x y ≡ Some l
+topmost-is [] higher l x y c n = ap₂ (λ o b. or-else o (cond b (Some l) None)) (none-topmost higher x y n) c
+topmost-is (m ∷ lower) higher l x y c n = ap (λ o. or-else o (cond (covers m x y) (Some m) None)) (topmost-is lower higher l x y c n)
+
+-- So a visible pixel is what the screen shows at its place.
+pub visible-shows : (screen : Size) (lower higher : List Layer) (l : Layer) (u v : ℕ) → u < l .pixels .width → v < l .pixels .height → visible screen higher l u v ≡ true
+    → shown (lower ++ (l ∷ higher)) (l .x +ℤ pos u) (l .y +ℤ pos v) ≡ l .pixels .at u v
+visible-shows screen lower higher l u v hu hv s =
+    let x = l .x +ℤ pos u in
+    let y = l .y +ℤ pos v in
+    let c : covers l x y ≡ true = covers-pixel l u v ∙ and-from _ _ (lt-ltb u _ hu) (lt-ltb v _ hv) in
+    let n : covered higher x y ≡ false = not-true _ (and-parts (inside screen x y) (not (covered higher x y)) s .1) in
+    ap (λ o. pixel-of o x y) (topmost-is lower higher l x y c n) ∙ ap₂ (l .pixels .at) (back (l .x) u) (back (l .y) v)
+  where
+    back : (a : ℤ) (k : ℕ) → natAbs ((a +ℤ pos k) -ℤ a) ≡ k
+    back a k = let e : (a +ℤ pos k) -ℤ a ≡ pos k = omega (arith, ints) in ap natAbs e
 
 pub screen-sizes : (s : Picture) (d e : Desk) → sizes (screen-after s d e) ≡ sizes s
 unfolding screen-after

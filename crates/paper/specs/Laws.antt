@@ -1,11 +1,11 @@
 -- Laws of a desk.
 use mathlib.Core.Path.{_≡_}
 use mathlib.Core.Bool.{true, false, cond}
-use mathlib.Core.List.{List, [], _∷_}
+use mathlib.Core.List.{List, [], _∷_, _++_}
 use Prim.Native.Nat.{ℕ, _≤_, _<_}
 use lib.Dec.{eqb}
 use lib.ListN.{length}
-use lib.IntN.{ℤ, pos}
+use lib.IntN.{ℤ, pos, _+ℤ_}
 use Rattle.std.specs.declared.option.Option.{Option}
 use Rattle.std.specs.declared.option.Option.the-variants.{Some, None}
 use Rattle.std.specs.declared.result.Result.the-variants.{Ok, Err}
@@ -14,7 +14,7 @@ use Rattle.raster.specs.Blt.{inside}
 use Rattle.raster.specs.declared.size.Size.{Size}
 use Rattle.paper.specs.declared.DeskFault.{DeskFault}
 use Rattle.paper.specs.Layers.{Desk, Layer, covers, covered, shown, screen-after, is-open, only}
-use Rattle.paper.specs.Slots.{hidden}
+use Rattle.paper.specs.Slots.{visible, hidden}
 use Rattle.paper.specs.Desk.{Call, open-layer, close-layer, raise-layer, lower-layer, move-layer, change, answer, after}
 use Rattle.paper.specs.Run.{new-state, Step, end-of, Run}
 
@@ -37,6 +37,9 @@ pub record Desk-laws : Type 0 where
   -- no patch of a layer is hidden exactly if it is wholly on the screen and nothing above meets it
   pub clear-shows : (screen : Size) (higher : List Layer) (l : Layer) → Clear screen higher l → None-hidden screen higher l
   pub shown-clear : (screen : Size) (higher : List Layer) (l : Layer) → None-hidden screen higher l → Clear screen higher l
+  -- a visible pixel of a layer is what the screen rule shows at its place
+  pub visible-shows : (screen : Size) (lower higher : List Layer) (l : Layer) (u v : ℕ) → u < l .pixels .width → v < l .pixels .height
+      → visible screen higher l u v ≡ true → shown (lower ++ (l ∷ higher)) (l .x +ℤ pos u) (l .y +ℤ pos v) ≡ l .pixels .at u v
   -- to raise twice is to raise once, and to raise and then lower is to lower
   pub raise-twice : (d : Desk) (c : ℕ) → change (change d (raise-layer c)) (raise-layer c) ≡ change d (raise-layer c)
   pub raise-lower : (d : Desk) (c : ℕ) → change (change d (raise-layer c)) (lower-layer c) ≡ change d (lower-layer c)
