@@ -1,0 +1,16 @@
+pub mod Layers
+pub mod View
+pub mod Pictures
+pub mod Clean
+pub mod Screen
+pub mod Trace
+pub mod Runs
+pub mod Pane
+pub mod Houses
+pub mod Plays
+pub mod Apart
+pub mod Examples
+pub mod Order
+pub mod Hidden
+pub mod Outline
+pub mod Laws
