@@ -1,0 +1,10 @@
+//! Where a layer lies.
+
+/// The rectangle of a layer: its corner, on the screen or off it, and its size.
+#[derive(Clone, Copy)]
+pub struct Frame {
+    pub x: i16,
+    pub y: i16,
+    pub w: u16,
+    pub h: u16,
+}
