@@ -63,3 +63,6 @@ fn main(rt: LibcRuntime) -> io::Result<()> {
     }
     Ok(())
 }
+
+#[cfg(test)]
+mod tests;
