@@ -14,6 +14,7 @@ use std::io;
 
 /// How wide the chart is, and how many values a pixel of depth 2 has.
 const WIDTH: u16 = 16;
+
 const VALUES: u16 = 4;
 
 /// A pixel, below 16, as a hexadecimal digit.
@@ -63,3 +64,6 @@ fn main(rt: LibcRuntime) -> io::Result<()> {
     }
     Ok(())
 }
+
+#[cfg(test)]
+mod tests;

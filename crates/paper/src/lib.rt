@@ -2,11 +2,15 @@
 ghost use Rattle.paper.specs.Apart.{Layers-keep-apart};
 ghost use Rattle.paper.specs.Laws.{Desk-laws};
 use raster::Fault;
+use raster::FaultDebug;
+use raster::FaultPartialEq;
 use raster::Refusal;
+use raster::RefusalDebug;
+use raster::RefusalPartialEq;
 
 /// What a refused call of a desk answers: why, the client that the call named (255 if it named none),
 /// and what the client's own bitmap answered, where that is the reason.
-#[derive(Clone, Copy)]
+#[derive(Clone, Copy, PartialEq, Eq, Debug)]
 pub struct DeskFault {
     pub refusal: Refusal,
     pub client: u8,

@@ -16,7 +16,7 @@ pub impl Bitmap for Planes as PlanesBitmap {
     ghost keeps = { Planes-kept };
 
     fn size(&self) -> Size {
-        self.size
+        self.size // as made
     }
 
     fn read(&self, x: i16, y: i16) -> Result<u8, Fault> {

@@ -66,6 +66,7 @@ one-row x w t l =
   where
     single : (a : ℕ) → eqb a x ≡ (leb x a && ltb a (x + 1))
     single a = grind (arith, tells)
+
     and-true : (b : Bool) → (b && true) ≡ b
     and-true true = refl
     and-true false = refl

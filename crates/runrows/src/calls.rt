@@ -20,7 +20,7 @@ pub impl Bitmap for RunRows as RunRowsBitmap {
     ghost keeps = { Rows-kept };
 
     fn size(&self) -> Size {
-        self.size
+        self.size // as made
     }
 
     fn read(&self, x: i16, y: i16) -> Result<u8, Fault> {

@@ -101,7 +101,13 @@ pub(crate) fn paint(entries: &mut [u16], size: Size, blit: Blit)
     }
     for j in 0..blit.rows.len {
         let k = blit.rows.turn(j);
-        paint_row(entries, size, blit, blit.rows.first + k, blit.rows.source + k);
+        paint_row(
+            entries,
+            size,
+            blit,
+            blit.rows.first + k,
+            blit.rows.source + k,
+        );
     }
 }
 

@@ -11,6 +11,7 @@ use Rattle.raster.specs.Calls.{bitmap-fault, bitmap-answer, bitmap-after}
 use Rattle.raster.proofs.Digits.{bit-below, of-two-bits}
 use Rattle.planes.specs.Layout.{word-of}
 use Rattle.runrows.specs.Runs.{Runs, Settled}
+use Rattle.paper.proofs.Examples.{desk-examples}
 use Rattle.worked.specs.Examples.{Worked-examples, runs}
 
 -- the complement of a source bit, whatever the destination bit, by one test
@@ -63,4 +64,5 @@ worked-examples =
       far-bit = refl;
       run-row = settled;
       run-pixels = refl;
+      on-desks = desk-examples;
     }

@@ -11,6 +11,7 @@ use Rattle.raster.specs.Blt.{transfer}
 use Rattle.raster.specs.Calls.{Bitmap-call, fill-with, scroll-by, bitmap-answer, bitmap-after}
 use Rattle.planes.specs.Layout.{word-of, bit-of}
 use Rattle.runrows.specs.Runs.{run-at, Settled}
+use Rattle.paper.specs.Examples.{Desk-examples}
 
 -- a picture of depth 2 that is 0 everywhere, and one of a row of four pixels
 abbrev pub zeros : (w h : ℕ) → Picture
@@ -49,3 +50,5 @@ pub record Worked-examples : Type 0 where
   -- the row 2 2 0 1 in its one writing
   pub run-row : Settled 2 runs 4
   pub run-pixels : run-at 2 runs 0 ∷ run-at 2 runs 1 ∷ run-at 2 runs 2 ∷ run-at 2 runs 3 ∷ [] ≡ 2 ∷ 2 ∷ 0 ∷ 1 ∷ []
+  -- patches, slots and moves on a desk
+  pub on-desks : Desk-examples
