@@ -14,3 +14,4 @@ pub mod Order
 pub mod Hidden
 pub mod Outline
 pub mod Laws
+pub mod Draws
