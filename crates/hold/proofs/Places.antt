@@ -198,7 +198,8 @@ slot-within store depth k a b h ha hb = go (ltb (store .depth) depth) refl h
         let q = ltb-false (store .depth) depth e in
         (omega arith, omega arith, q)
 
-spot-by : (width : ℕ) (p : Plan) (t : Slots) (c u v : ℕ) (P : Spot → Type 0) → (seen p c u v ≡ true → P (screen-spot p c u v)) → (seen p c u v ≡ false → P (store-spot width t c u v)) → P (spot-of width p t c u v)
+-- by cases on whether a pixel is visible
+pub spot-by : (width : ℕ) (p : Plan) (t : Slots) (c u v : ℕ) (P : Spot → Type 0) → (seen p c u v ≡ true → P (screen-spot p c u v)) → (seen p c u v ≡ false → P (store-spot width t c u v)) → P (spot-of width p t c u v)
 unfolding spot-of
 spot-by width p t c u v P on off = go (seen p c u v) refl
   where

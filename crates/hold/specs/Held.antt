@@ -3,7 +3,7 @@ use mathlib.Core.Path.{_≡_}
 use mathlib.Core.Bool.{Bool, true, cond, _&&_}
 use mathlib.Core.List.{List, [], _∷_}
 use Prim.Native.Nat.{ℕ, _<_}
-use lib.Dec.{ltb}
+use lib.Dec.{eqb, ltb}
 use Rattle.raster.specs.Picture.{Picture, sizes}
 use Rattle.paper.specs.Layers.{Layer, Desk, screen-after}
 use Rattle.paper.specs.Slots.{slots-of}
@@ -17,6 +17,10 @@ use Rattle.hold.specs.Spots.{spot-of, look}
 -- The value of each pixel of each client's layer, by a function of client, column and row.
 abbrev pub Pixels : Type 0
 Pixels = (client u v : ℕ) → ℕ
+
+-- The same but for one pixel.
+abbrev pub with-one : Pixels → (client u v value : ℕ) → Pixels
+with-one px c u v value d a b = cond (eqb d c && (eqb a u && eqb b v)) value (px d a b)
 
 -- A client's layer in an arrangement, with pixels by such a function; outside its size they are 0.
 abbrev pub layer-with : (depth : ℕ) → Plan → Pixels → ℕ → Layer
