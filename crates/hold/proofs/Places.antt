@@ -222,9 +222,11 @@ same-offset z a b x p q = omega (arith, ints)
 screen-apart : (p : Plan) (c u v d a b x y : ℕ) → Own-pixel p c u v → Own-pixel p d a b → On-screen p c u v x y → On-screen p d a b x y → (c ≡ d) × (u ≡ a) × (v ≡ b)
 screen-apart p c u v d a b x y o o′ s s′ =
     ⊎-elim
-    (λ (e : c ≡ d). (e,
+    (λ (e : c ≡ d). (
+      e,
       same-offset (frame-in p c .x) u a x (s .across) (ap (λ n. frame-in p n .x +ℤ pos a) e ∙ s′ .across),
-      same-offset (frame-in p c .y) v b y (s .down) (ap (λ n. frame-in p n .y +ℤ pos b) e ∙ s′ .down)))
+      same-offset (frame-in p c .y) v b y (s .down) (ap (λ n. frame-in p n .y +ℤ pos b) e ∙ s′ .down),
+    ))
     (λ (ne : c ≡ d → ⊥).
     absurd (one-above (p .frames) c d (pos x) (pos y) (listed p) ne (o .opened) (o′ .opened) (seen-covers p c u v x y o s) (seen-covers p d a b x y o′ s′) (s .free) (s′ .free)))
     (cases-eq c d)
