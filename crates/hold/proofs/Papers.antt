@@ -31,7 +31,7 @@ use Rattle.plan.specs.Frames.{no-frame, has, distinct}
 use Rattle.plan.specs.Plans.{outline, outlines, listed, layers-in, frame-in, above, seen}
 use Rattle.hold.specs.declared.spot.Spot.{Spot}
 use Rattle.hold.specs.Spots.{spot-of, screen-spot, store-spot, look, screen-with, store-with}
-use Rattle.hold.specs.Held.{Pixels, with-one, layer-with, layers-with, held, paper-of, Holds, Fitting, Own-pixel, Drawn}
+use Rattle.hold.specs.Held.{Pixels, with-one, layer-with, layers-with, held, paper-of, layer-held, Holds, Fitting, Own-pixel, Drawn}
 use Rattle.hold.proofs.Places.{seen-place, seen-covers, covered-listed, spot-by}
 use Rattle.hold.proofs.Puts.{screen-with-sizes, store-with-sizes, fitting-same, elsewhere, held-put}
 
@@ -113,8 +113,14 @@ module _ (screen store : Picture) (p : Plan) (t : Slots) where
   paper-pixels c h = pixels-with (screen .depth) p (held screen store p t) c (listed p) h
 
   -- the pane of an open layer has the pixels that are held
-  pub held-pane : (c : ℕ) → has c (listed p) ≡ true → pane c (paper-of screen store p t) ≡ layer-with (screen .depth) p (held screen store p t) c .pixels
+  pub held-pane : (c : ℕ) → has c (listed p) ≡ true → layer-held screen store p t c ≡ layer-with (screen .depth) p (held screen store p t) c .pixels
   held-pane c h = ap (or-blank (paper-of screen store p t .size .depth)) (paper-pixels c h)
+
+  pub layer-size : (c : ℕ) → has c (listed p) ≡ true → sizes (layer-held screen store p t c) ≡ record { width = frame-in p c .w; height = frame-in p c .h; depth = screen .depth }
+  layer-size c h = ap sizes (held-pane c h)
+
+  pub layer-at : (c u v : ℕ) → Own-pixel p c u v → layer-held screen store p t c .at u v ≡ held screen store p t c u v
+  layer-at c u v o = ap (λ (q : Picture). q .at u v) (held-pane c (o .opened)) ∙ cond-true _ _ _ (and-from _ _ (lt-ltb u _ (o .across)) (lt-ltb v _ (o .down)))
 
   pub paper-covered : (x y : ℤ) → covered (paper-of screen store p t .layers) x y ≡ covered (layers-in p) x y
   unfolding paper-of
@@ -236,7 +242,7 @@ screen-drawn screen store screen′ store′ p t f e bare =
 
 module _ (p : Plan) (t : Slots) (c : ℕ) (opened : has c (listed p) ≡ true) where
   -- nothing drawn
-  pub drawn-none : (screen store : Picture) → Fitting screen store p t → Drawn p t screen store screen store c (pane c (paper-of screen store p t))
+  pub drawn-none : (screen store : Picture) → Fitting screen store p t → Drawn p t screen store screen store c (layer-held screen store p t c)
   drawn-none screen store f = record {
     screen-size = refl;
     store-size = refl;
@@ -258,7 +264,7 @@ module _ (p : Plan) (t : Slots) (c : ℕ) (opened : has c (listed p) ≡ true) w
 
   module _ (screen store screen′ store′ q : Picture) (d : Drawn p t screen store screen′ store′ c q) where
     -- the layer is what was drawn
-    pub drawn-pane : pane c (paper-of screen′ store′ p t) ≡ q
+    pub drawn-pane : layer-held screen′ store′ p t c ≡ q
     drawn-pane = ap (pane c) (d .paper) ∙ repainted-pane c q _ (paper-of screen store p t) (paper-pixels screen store p t c opened)
 
     pub drawn-fits : Fitting screen store p t → Fitting screen′ store′ p t
@@ -276,7 +282,7 @@ module _ (screen store : Picture) (p : Plan) (t : Slots) (f : Fitting screen sto
   at = spot-of (store .width) p t c u v
 
   -- the client's picture with the value
-  put-picture : with-pixel (pane c (paper-of screen store p t)) u v value ≡ layer-with (screen .depth) p (with-one (held screen store p t) c u v value) c .pixels
+  put-picture : with-pixel (layer-held screen store p t c) u v value ≡ layer-with (screen .depth) p (with-one (held screen store p t) c u v value) c .pixels
   unfolding painted
   put-picture =
       ap (λ (q : Picture). with-pixel q u v value) (held-pane screen store p t c (o .opened))
@@ -304,7 +310,7 @@ module _ (screen store : Picture) (p : Plan) (t : Slots) (f : Fitting screen sto
       (λ _. refl)
 
   -- A value put at a pixel's spot draws that pixel.
-  pub put-drawn : value < 2 ^ screen .depth → Drawn p t screen store (screen-with screen at value) (store-with store at value) c (with-pixel (pane c (paper-of screen store p t)) u v value)
+  pub put-drawn : value < 2 ^ screen .depth → Drawn p t screen store (screen-with screen at value) (store-with store at value) c (with-pixel (layer-held screen store p t c) u v value)
   put-drawn small = record {
     screen-size = screen-with-sizes screen at value;
     store-size = store-with-sizes store at value;

@@ -5,7 +5,7 @@ use mathlib.Core.List.{List, [], _∷_}
 use Prim.Native.Nat.{ℕ, _<_}
 use lib.Dec.{eqb, ltb}
 use Rattle.raster.specs.Picture.{Picture, sizes}
-use Rattle.paper.specs.Layers.{Layer, Desk, screen-after}
+use Rattle.paper.specs.Layers.{Layer, Desk, pane, screen-after}
 use Rattle.paper.specs.Slots.{slots-of}
 use Rattle.paper.specs.Desk.{repaint}
 use Rattle.plan.specs.declared.plan.Plan.{Plan}
@@ -51,6 +51,10 @@ paper-of screen store p t = record {
   slots = slots-of (sizes store) (screen .depth);
   layers = layers-with (screen .depth) p (held screen store p t) (listed p);
 }
+
+-- The picture of a client's layer.
+abbrev pub layer-held : (screen store : Picture) → Plan → Slots → (client : ℕ) → Picture
+layer-held screen store p t c = pane c (paper-of screen store p t)
 
 -- Each pixel of each open layer is where its spot says.
 abbrev pub Holds : (screen store : Picture) → Plan → Slots → Pixels → Type 0
