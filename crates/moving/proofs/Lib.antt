@@ -1,3 +1,4 @@
 pub mod Places
 pub mod Stows
 pub mod Dressed
+pub mod Rearranged
