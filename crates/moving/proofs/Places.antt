@@ -240,6 +240,10 @@ shows-behind width p t x y d u v s =
     ap (λ o. backed width t o x y) (s .top)
     ∙ ap₂ (kept-pixel width t d) (place-from (frame-in p d .x) x u (s .across)) (place-from (frame-in p d .y) y v (s .down))
 
+pub bare-behind : (width : ℕ) (p : Plan) (t : Slots) (x y : ℕ) → covered (layers-in p) (pos x) (pos y) ≡ false → behind width p t x y ≡ Bare
+unfolding behind
+bare-behind width p t x y n = ap (λ o. backed width t o x y) (none-topmost (layers-in p) (pos x) (pos y) n)
+
 -- Such a pixel is seen, if the place is on the screen; and a pixel that is seen shows at its place.
 pub shows-seen : (p : Plan) (x y d u v : ℕ) → Shows p x y d u v → inside (p .screen) (pos x) (pos y) ≡ true → seen p d u v ≡ true
 shows-seen p x y d u v s on =

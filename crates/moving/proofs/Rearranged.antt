@@ -19,7 +19,7 @@ use Rattle.raster.specs.Calls.{any-below}
 use Rattle.raster.specs.declared.size.Size.{Size}
 use Rattle.raster.proofs.Paints.{same-picture, painted-at}
 use Rattle.paper.specs.Layers.{Desk, Layer, covered, topmost, shown, screen-after}
-use Rattle.paper.specs.Slots.{obscured, hidden, hidden-in}
+use Rattle.paper.specs.Slots.{slots-of, obscured, hidden, hidden-in}
 use Rattle.paper.proofs.Screen.{topmost-tells, none-shown, screen-sizes}
 use Rattle.plan.specs.declared.frame.Frame.{Frame}
 use Rattle.plan.specs.declared.plan.Plan.{Plan}
@@ -33,7 +33,7 @@ use Rattle.moving.specs.declared.backing.Backing.{Backing}
 use Rattle.moving.specs.declared.backing.Backing.the-variants.{Bare, Alone, Kept}
 use Rattle.moving.specs.Phases.{store-x, store-y, in-store, kept-pixel, from-corner, backed, behind, Stowed, changes, taken, repainted}
 use Rattle.moving.specs.Moves.{desk-with, Stays, Allotted, Worked}
-use Rattle.moving.proofs.Places.{same-client, Real, real, real-patch, place-x, place-y, Shows, Seen-at, shown-by, shows-behind, shows-seen, seen-shows, shows-place, top-shows, Keeps, behind-keeps, keeps-pixel}
+use Rattle.moving.proofs.Places.{same-client, Real, real, real-patch, place-x, place-y, Shows, Seen-at, shown-by, shows-behind, bare-behind, shows-seen, seen-shows, shows-place, top-shows, Keeps, behind-keeps, keeps-pixel}
 use Rattle.moving.proofs.Stows.{repainted-sizes, repainted-at}
 use Rattle.moving.proofs.Dressed.{with-covered, with-shown}
 
@@ -95,6 +95,50 @@ Small s = (x y : ℕ) → s .at x y < 2 ^ s .depth
 same-place : (width : ℕ) (t t′ : Slots) (m : Picture) (d u v : ℕ) → slot-of t′ (patch-at d (u / 16) (v / 16)) ≡ slot-of t (patch-at d (u / 16) (v / 16))
     → m .at (store-x width t′ d u v) (store-y width t′ d u v) ≡ m .at (store-x width t d u v) (store-y width t d u v)
 same-place width t t′ m d u v e = ap (λ k. m .at (slot-x width k + u % 16) (slot-y width k + v % 16)) e
+
+-- ── The screen ──
+
+-- A screen on which every pixel of the layers is where its spot says is the one that a call leaves, if the places that no layer covers after it are 0 where
+-- one did before, and else as they were.
+pub screen-shows : (s s′ m m′ : Picture) (p q : Plan) (t″ : Slots) (px px′ : Pixels) → Holds s′ m′ q t″ px′ → sizes s′ ≡ sizes s → q .screen ≡ sizes s
+    → ((x y : ℕ) → inside (sizes s) (pos x) (pos y) ≡ true → covered (layers-in q) (pos x) (pos y) ≡ false → s′ .at x y ≡ cond (covered (layers-in p) (pos x) (pos y)) 0 (s .at x y))
+    → ((x y : ℕ) → inside (sizes s) (pos x) (pos y) ≡ false → s′ .at x y ≡ s .at x y)
+    → s′ ≡ screen-after s (desk-with s m p px) (desk-with s m q px′)
+unfolding screen-after
+screen-shows s s′ m m′ p q t″ px px′ holds size fit bare outside =
+    same-picture s′ (screen-after s (desk-with s m p px) (desk-with s m q px′))
+    (ap (λ z. z .width) (size ∙ sym left)) (ap (λ z. z .height) (size ∙ sym left)) (ap (λ z. z .depth) (size ∙ sym left))
+    (λ x y. place x y (inside (sizes s) (pos x) (pos y)) refl (topmost (layers-in q) (pos x) (pos y)) refl ∙ sym (painted-at s _ _ x y))
+  where
+    left : sizes (screen-after s (desk-with s m p px) (desk-with s m q px′)) ≡ sizes s
+    left = screen-sizes s (desk-with s m p px) (desk-with s m q px′)
+    place : (x y : ℕ) (b : Bool) → inside (sizes s) (pos x) (pos y) ≡ b → (o : Option Layer) → topmost (layers-in q) (pos x) (pos y) ≡ o
+        → s′ .at x y ≡ cond (inside (sizes s) (pos x) (pos y) && (covered (layers-with (s .depth) p px (listed p)) (pos x) (pos y) || covered (layers-with (s .depth) q px′ (listed q)) (pos x) (pos y)))
+        (shown (layers-with (s .depth) q px′ (listed q)) (pos x) (pos y)) (s .at x y)
+    place x y false e o eo = outside x y e ∙ sym (cond-false _ _ (s .at x y) (and-left _ _ e))
+    place x y true e (Some l) eo =
+        let u : ℕ = from-corner (l .x) x in
+        let v : ℕ = from-corner (l .y) y in
+        let z = top-shows q x y l eo in
+        let i = shows-place q x y (l .client) u v z in
+        let on : seen q (l .client) u v ≡ true = shows-seen q x y (l .client) u v z (ap (λ n. inside n (pos x) (pos y)) fit ∙ e) in
+        let c : covered (layers-with (s .depth) q px′ (listed q)) (pos x) (pos y) ≡ true = with-covered (s .depth) q px′ (pos x) (pos y) ∙ topmost-tells (layers-in q) (pos x) (pos y) ∙ ap isSome eo in
+        ap₂ (s′ .at) (sym (i .0)) (sym (i .1)) ∙ sym (held-seen s′ m′ q t″ (l .client) u v on) ∙ holds (l .client) (z .listed) u v (z .column) (z .row)
+        ∙ sym (with-shown (s .depth) q px′ x y (l .client) u v z) ∙ sym (cond-true _ _ (s .at x y) (and-from _ _ e (or-right _ _ c)))
+    place x y true e None eo =
+        let n : covered (layers-in q) (pos x) (pos y) ≡ false = topmost-tells (layers-in q) (pos x) (pos y) ∙ ap isSome eo in
+        let c : covered (layers-with (s .depth) q px′ (listed q)) (pos x) (pos y) ≡ false = with-covered (s .depth) q px′ (pos x) (pos y) ∙ n in
+        bare x y e n
+        ∙ ap₂ (λ b v. cond b v (s .at x y)) (sym (with-covered (s .depth) p px (pos x) (pos y))) (sym (none-shown (layers-with (s .depth) q px′ (listed q)) (pos x) (pos y) c))
+        ∙ ap (λ b. cond b (shown (layers-with (s .depth) q px′ (listed q)) (pos x) (pos y)) (s .at x y)) (sym (simply _ _ _ e c))
+      where
+        simply : (a b c : Bool) → a ≡ true → c ≡ false → (a && (b || c)) ≡ b
+        simply a true c ea ec = ap (λ z. z && true) ea
+        simply a false c ea ec = ap₂ _&&_ ea ec
+
+-- The same desk on paper, from bitmaps of the same sizes.
+pub desk-same : (s s′ m m′ : Picture) (q : Plan) (px : Pixels) → sizes s′ ≡ sizes s → sizes m′ ≡ sizes m → desk-with s′ m′ q px ≡ desk-with s m q px
+desk-same s s′ m m′ q px es em = λ i. record { size = es i; slots = slots-of (em i) (es i .depth); layers = layers-with (es i .depth) q px (listed q) }
 
 -- ── Stowing ──
 
@@ -218,3 +262,27 @@ module _ (p q : Plan) (t t′ t″ : Slots) (at : ℕ → ℕ → Bool) (px : Pi
     -- Every pixel of the layers after is where its spot says.
     pub rearranged : Holds s′ m′ q t″ px
     rearranged d h u v hu hv = one-pixel d u v h hu hv
+
+    pub rearranged-sizes : sizes s′ ≡ sizes s
+    rearranged-sizes = ap sizes repaints ∙ repainted-sizes m′ q t′ at s
+
+    -- The screen is what the call should leave.
+    pub rearranged-screen : p .screen ≡ sizes s → s′ ≡ screen-after s (desk-with s m p px) (desk-with s m q px)
+    rearranged-screen fit =
+        screen-shows s s′ m m′ p q t″ px px rearranged rearranged-sizes (work .same-screen ∙ fit)
+        (λ x y e n. bare x y e n (at x y) refl)
+        (λ x y e. painted-there x y ∙ cond-false _ _ (s .at x y) (and-left _ _ (never x y e (at x y) refl)))
+      where
+        never : (x y : ℕ) → inside (sizes s) (pos x) (pos y) ≡ false → (b : Bool) → at x y ≡ b → b ≡ false
+        never x y e true w = absurd (both-ways (inside (p .screen) (pos x) (pos y)) (ap (λ z. inside z (pos x) (pos y)) fit ∙ e) (work .on x y w))
+        never x y e false w = refl
+        bare : (x y : ℕ) → inside (sizes s) (pos x) (pos y) ≡ true → covered (layers-in q) (pos x) (pos y) ≡ false → (b : Bool) → at x y ≡ b
+            → s′ .at x y ≡ cond (covered (layers-in p) (pos x) (pos y)) 0 (s .at x y)
+        bare x y e n true w =
+            let k : behind (m .width) q t′ x y ≡ Bare = bare-behind (m .width) q t′ x y n in
+            let c : covered (layers-in p) (pos x) (pos y) ≡ true = ⊎-elim (λ (a : covered (layers-in p) (pos x) (pos y) ≡ true). a) (λ a. absurd (both-ways (covered (layers-in q) (pos x) (pos y)) n a)) (or-cases _ _ (work .under x y w)) in
+            painted-there x y ∙ ap₂ (λ b c. cond (b && changes c) (taken (s .depth) m′ c) (s .at x y)) w k ∙ sym (cond-true _ 0 (s .at x y) c)
+        bare x y e n false w =
+            let same = work .off x y (ap (λ z. inside z (pos x) (pos y)) fit ∙ e) w in
+            let c : covered (layers-in p) (pos x) (pos y) ≡ false = topmost-tells (layers-in p) (pos x) (pos y) ∙ ap isSome (sym same) ∙ sym (topmost-tells (layers-in q) (pos x) (pos y)) ∙ n in
+            painted-there x y ∙ cond-false _ _ (s .at x y) (and-left _ _ w) ∙ sym (cond-false _ 0 (s .at x y) c)
