@@ -2,3 +2,4 @@ pub mod Places
 pub mod Stows
 pub mod Dressed
 pub mod Rearranged
+pub mod Opened

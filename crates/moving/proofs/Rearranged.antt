@@ -87,12 +87,18 @@ module _ (screen store : Picture) (p : Plan) (t : Slots) (d u v : ℕ) where
   unfolding spot-of
   held-unseen s = ap (look screen store) (cond-false _ (screen-spot p d u v) (store-spot (store .width) t d u v) s)
 
+-- A pixel that shows at a place has its value there.
+pub was-there : (s m : Picture) (p : Plan) (t : Slots) (px : Pixels) → Holds s m p t px → (x y d u v : ℕ) → Shows p x y d u v → inside (p .screen) (pos x) (pos y) ≡ true → s .at x y ≡ px d u v
+was-there s m p t px holds x y d u v z on =
+    let i = shows-place p x y d u v z in
+    ap₂ (s .at) (sym (i .0)) (sym (i .1)) ∙ sym (held-seen s m p t d u v (shows-seen p x y d u v z on)) ∙ holds d (z .listed) u v (z .column) (z .row)
+
 -- Values of a picture fit its depth.
 abbrev pub Small : Picture → Type 0
 Small s = (x y : ℕ) → s .at x y < 2 ^ s .depth
 
 -- a pixel's place in the store by two tables that agree on its slot
-same-place : (width : ℕ) (t t′ : Slots) (m : Picture) (d u v : ℕ) → slot-of t′ (patch-at d (u / 16) (v / 16)) ≡ slot-of t (patch-at d (u / 16) (v / 16))
+pub same-place : (width : ℕ) (t t′ : Slots) (m : Picture) (d u v : ℕ) → slot-of t′ (patch-at d (u / 16) (v / 16)) ≡ slot-of t (patch-at d (u / 16) (v / 16))
     → m .at (store-x width t′ d u v) (store-y width t′ d u v) ≡ m .at (store-x width t d u v) (store-y width t d u v)
 same-place width t t′ m d u v e = ap (λ k. m .at (slot-x width k + u % 16) (slot-y width k + v % 16)) e
 
@@ -169,7 +175,7 @@ module _ (p q : Plan) (t t′ t″ : Slots) (at : ℕ → ℕ → Bool) (px : Pi
           ap (λ n. n % 2 ^ s .depth) (c ∙ same-place (m .width) t t′ m d u v (slots .kept n (real-patch d u v r) had)) ∙ sym (held-unseen s m p t d u v e) ∙ holds d h u v hu hv
 
   -- A pixel that shows before, and after is obscured or shows at a place worked on, shows before at a place worked on.
-  worked : (d u v : ℕ) → has d (listed p) ≡ true → u < frame-in p d .w → v < frame-in p d .h
+  pub worked : (d u v : ℕ) → has d (listed p) ≡ true → u < frame-in p d .w → v < frame-in p d .h
       → (seen q d u v ≡ true → at (place-x q d u) (place-y q d v) ≡ true) → seen p d u v ≡ true → at (place-x p d u) (place-y p d v) ≡ true
   worked d u v h hu hv w e = go (at (place-x p d u) (place-y p d v)) refl
     where
@@ -191,12 +197,6 @@ module _ (p q : Plan) (t t′ t″ : Slots) (at : ℕ → ℕ → Bool) (px : Pi
     painted-there x y =
         ap (λ (n : Picture). n .at x y) repaints ∙ repainted-at m′ q t′ at s x y
         ∙ ap (λ (z : Size). cond (at x y && changes (behind (z .width) q t′ x y)) (taken (s .depth) m′ (behind (z .width) q t′ x y)) (s .at x y)) (stowed .size)
-
-    -- a pixel that shows both before and after at a place has its value there
-    was-there : (x y d u v : ℕ) → Shows p x y d u v → inside (p .screen) (pos x) (pos y) ≡ true → s .at x y ≡ px d u v
-    was-there x y d u v z on =
-        let i = shows-place p x y d u v z in
-        ap₂ (s .at) (sym (i .0)) (sym (i .1)) ∙ sym (held-seen s m p t d u v (shows-seen p x y d u v z on)) ∙ holds d (z .listed) u v (z .column) (z .row)
 
     module _ (d u v : ℕ) (h : has d (listed q) ≡ true) (hu : u < frame-in q d .w) (hv : v < frame-in q d .h) where
       abbrev hu′ : u < frame-in p d .w
@@ -228,7 +228,7 @@ module _ (p q : Plan) (t t′ t″ : Slots) (at : ℕ → ℕ → Bool) (px : Pi
               alone k (inl c) =
                   let f = stays d h .fixed u v hu′ hv′ k in
                   let y = seen-shows p d u v (stays d h .was) hu′ hv′ c in
-                  ap₂ (λ a b. s .at (natAbs (a +ℤ pos u)) (natAbs (b +ℤ pos v))) (f .0) (f .1) ∙ was-there (place-x p d u) (place-y p d v) d u v (y .shows) (y .on)
+                  ap₂ (λ a b. s .at (natAbs (a +ℤ pos u)) (natAbs (b +ℤ pos v))) (f .0) (f .1) ∙ was-there s m p t px holds (place-x p d u) (place-y p d v) d u v (y .shows) (y .on)
               alone k (inr c) =
                   let r = real p d u v (stays d h .was) hu′ hv′ in
                   let n : ℕ = patch-at d (u / 16) (v / 16) in
@@ -242,7 +242,7 @@ module _ (p q : Plan) (t t′ t″ : Slots) (at : ℕ → ℕ → Bool) (px : Pi
           let z = seen-shows q d u v h hu hv e in
           let on : inside (p .screen) (pos x) (pos y) ≡ true = ap (λ n. inside n (pos x) (pos y)) (sym (work .same-screen)) ∙ z .on in
           let z′ = shown-by p x y d u v (frame-in q d) (sym (work .off x y on w) ∙ z .shows .top) (z .shows .across) (z .shows .down) in
-          painted-there x y ∙ cond-false _ _ (s .at x y) (and-left _ _ w) ∙ was-there x y d u v z′ on
+          painted-there x y ∙ cond-false _ _ (s .at x y) (and-left _ _ w) ∙ was-there s m p t px holds x y d u v z′ on
 
       -- one that is obscured
       behind-others : seen q d u v ≡ false → held s′ m′ q t″ d u v ≡ px d u v

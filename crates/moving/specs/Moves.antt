@@ -1,8 +1,9 @@
 -- What has to hold of two arrangements, of the tables of slots on the way from one to the other, and of the places worked on.
 use mathlib.Core.Path.{_≡_}
-use mathlib.Core.Bool.{Bool, true, false, _||_}
+use mathlib.Core.Bool.{Bool, true, false, cond, _||_}
 use mathlib.Core.List.{List}
 use Prim.Native.Nat.{ℕ, _<_}
+use lib.Dec.{eqb}
 use lib.IntN.{pos}
 use Rattle.raster.specs.Picture.{Picture, sizes}
 use Rattle.raster.specs.Blt.{inside}
@@ -22,6 +23,10 @@ desk-with screen store p px = record {
   slots = slots-of (sizes store) (screen .depth);
   layers = layers-with (screen .depth) p px (listed p);
 }
+
+-- The same pixels, but for those of a client with a new layer, which are 0.
+abbrev pub fresh : (client : ℕ) → Pixels → Pixels
+fresh c px d u v = cond (eqb d c) 0 (px d u v)
 
 -- A client's layer was there, in the same size; if a pixel of it has no slot on the way, it has not been moved.
 pub record Stays (p q : Plan) (t′ : Slots) (d : ℕ) : Type 0 where

@@ -75,3 +75,10 @@ taken depth store (Kept a b) = store .at a b % 2 ^ depth
 unfoldable pub repainted : (store : Picture) → Plan → Slots → (at : ℕ → ℕ → Bool) → Picture → Picture
 repainted store p t at screen =
     painted screen (λ x y. at x y && changes (behind (store .width) p t x y)) (λ x y. taken (screen .depth) store (behind (store .width) p t x y))
+
+-- The store after the slots of a client's patches were set to 0, each a whole square.
+pub record Blanked (t : Slots) (c : ℕ) (before after : Picture) : Type 0 where
+  pub size : sizes after ≡ sizes before
+  pub cleared : (u v : ℕ) → u < 320 → v < 240 → in-store t c u v ≡ true → after .at (store-x (before .width) t c u v) (store-y (before .width) t c u v) ≡ 0
+  pub others : (a b : ℕ) → ((u v : ℕ) → u < 320 → v < 240 → in-store t c u v ≡ true → a ≡ store-x (before .width) t c u v → b ≡ store-y (before .width) t c u v → ⊥)
+      → after .at a b ≡ before .at a b
