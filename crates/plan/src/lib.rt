@@ -1,7 +1,9 @@
 //! Arrangements of layers and tables of slots, in plain numbers.
+mod ask;
 mod frame;
 mod plan;
 mod slots;
+mod tables;
 
 pub use frame::Frame;
 pub use plan::Plan;
