@@ -1,0 +1,5 @@
+pub mod Places
+pub mod Stows
+pub mod Dressed
+pub mod Rearranged
+pub mod Opened

@@ -1,0 +1,129 @@
+-- Stowing and repainting some places and then others.
+use mathlib.Core.Path.{_≡_, refl, sym, ap, ap₂, subst, _∙_}
+use mathlib.Core.Bool.{Bool, true, false, cond, _&&_, _||_}
+use mathlib.Core.Logic.{⊎-elim}
+use Prim.Native.Nat.{ℕ, _+_, _<_, _≤_}
+use native.Mathlib.Omega.{arith}
+use lib.Dec.{eqb}
+use Rattle.std.proofs.shelf.Tests.{and-parts, and-from, and-left, and-right, or-cases, or-left, or-right, both-ways, eqb-true, eq-eqb, cond-true, cond-false}
+use Rattle.raster.specs.Picture.{Picture, sizes, painted, with-pixel}
+use Rattle.raster.proofs.Paints.{painted-at, painted-sizes, painted-same, painted-none, painted-more}
+use Rattle.plan.specs.declared.plan.Plan.{Plan}
+use Rattle.plan.specs.declared.slots.Slots.{Slots}
+use Rattle.moving.specs.declared.backing.Backing.{Backing}
+use Rattle.moving.specs.declared.backing.Backing.the-variants.{Bare, Alone, Kept}
+use Rattle.moving.specs.Phases.{behind, Stowed, changes, taken, repainted}
+use Rattle.moving.proofs.Places.{behind-one}
+
+-- The one place (x, y).
+abbrev pub just : (x y : ℕ) → ℕ → ℕ → Bool
+just x y a b = eqb a x && eqb b y
+
+pub is-just : (x y a b : ℕ) → just x y a b ≡ true → (a ≡ x) × (b ≡ y)
+is-just x y a b e = let q = and-parts (eqb a x) (eqb b y) e in (eqb-true a x (q .0), eqb-true b y (q .1))
+
+module _ (s : Picture) (p : Plan) (t : Slots) where
+  pub stowed-none : (at : ℕ → ℕ → Bool) (m : Picture) → ((x y : ℕ) → at x y ≡ false) → Stowed s p t at m m
+  stowed-none at m n = record { size = refl; copied = λ x y a b h e. absurd (both-ways (at x y) (n x y) h); others = λ a b h. refl }
+
+  pub stowed-as : (f g : ℕ → ℕ → Bool) (m m′ : Picture) → ((x y : ℕ) → g x y ≡ f x y) → Stowed s p t f m m′ → Stowed s p t g m m′
+  stowed-as f g m m′ e d = record {
+    size = d .size;
+    copied = λ x y a b h k. d .copied x y a b (sym (e x y) ∙ h) k;
+    others = λ a b h. d .others a b (λ x y i k. h x y (e x y ∙ i) k);
+  }
+
+  -- Nothing is copied from a place whose pixel has no place in the store.
+  pub stowed-skip : (x y : ℕ) (m : Picture) → ((a b : ℕ) → behind (m .width) p t x y ≡ Kept a b → ⊥) → Stowed s p t (just x y) m m
+  stowed-skip x y m n = record {
+    size = refl;
+    copied = λ x′ y′ a b h k. let q = is-just x y x′ y′ h in absurd (n a b (ap₂ (behind (m .width) p t) (sym (q .0)) (sym (q .1)) ∙ k));
+    others = λ a b h. refl;
+  }
+
+  pub stowed-one : (x y a b : ℕ) (m m′ : Picture) → behind (m .width) p t x y ≡ Kept a b → m′ ≡ with-pixel m a b (s .at x y) → Stowed s p t (just x y) m m′
+  stowed-one x y a b m m′ e w = record {
+    size = ap sizes w ∙ painted-sizes m _ _;
+    copied = λ x′ y′ a′ b′ h k.
+        let q = is-just x y x′ y′ h in
+        let k′ : behind (m .width) p t x y ≡ Kept a′ b′ = ap₂ (behind (m .width) p t) (sym (q .0)) (sym (q .1)) ∙ k in
+        let ea : a′ ≡ a = cc in
+        let eb : b′ ≡ b = cc in
+        ap (λ (n : Picture). n .at a′ b′) w ∙ painted-at m (just a b) (λ _ _. s .at x y) a′ b′
+        ∙ cond-true (just a b a′ b′) _ _ (and-from _ _ (eq-eqb a′ a ea) (eq-eqb b′ b eb)) ∙ ap₂ (s .at) (sym (q .0)) (sym (q .1));
+    others = λ a′ b′ h. ap (λ (n : Picture). n .at a′ b′) w ∙ painted-at m (just a b) (λ _ _. s .at x y) a′ b′ ∙ cond-false (just a b a′ b′) _ _ (other a′ b′ h (just a b a′ b′) refl);
+  }
+    where
+      other : (a′ b′ : ℕ) → ((x′ y′ : ℕ) → just x y x′ y′ ≡ true → behind (m .width) p t x′ y′ ≡ Kept a′ b′ → ⊥) → (c : Bool) → just a b a′ b′ ≡ c → c ≡ false
+      other a′ b′ h true c =
+          let q = is-just a b a′ b′ c in
+          absurd (h x y (and-from _ _ (eq-eqb x x refl) (eq-eqb y y refl)) (e ∙ ap₂ Kept (sym (q .0)) (sym (q .1))))
+      other a′ b′ h false c = refl
+
+  pub stowed-join : (f g : ℕ → ℕ → Bool) (m m′ m″ : Picture) → Stowed s p t f m m′ → Stowed s p t g m′ m″ → Stowed s p t (λ x y. f x y || g x y) m m″
+  stowed-join f g m m′ m″ d e = record {
+    size = e .size ∙ d .size;
+    copied = λ x y a b h k. late x y a b h k (g x y) refl;
+    others = λ a b h. e .others a b (λ x y i k. h x y (or-right (f x y) (g x y) i) (early x y ∙ k)) ∙ d .others a b (λ x y i k. h x y (or-left (f x y) (g x y) i) k);
+  }
+    where
+      early : (x y : ℕ) → behind (m .width) p t x y ≡ behind (m′ .width) p t x y
+      early x y = ap (λ z. behind (z .width) p t x y) (sym (d .size))
+      late : (x y a b : ℕ) → (f x y || g x y) ≡ true → behind (m .width) p t x y ≡ Kept a b → (c : Bool) → g x y ≡ c → m″ .at a b ≡ s .at x y
+      late x y a b h k true c = e .copied x y a b c (sym (early x y) ∙ k)
+      late x y a b h k false c =
+          e .others a b (λ x′ y′ i k′.
+          let q = behind-one (m .width) p t x y x′ y′ a b k (early x′ y′ ∙ k′) in
+          both-ways (g x y) c (ap₂ g (q .0) (q .1) ∙ i))
+          ∙ d .copied x y a b (⊎-elim (λ (u : f x y ≡ true). u) (λ (u : g x y ≡ true). absurd (both-ways (g x y) c u)) (or-cases (f x y) (g x y) h)) k
+
+or-and : (f g c : Bool) → ((f || g) && c) ≡ ((g && c) || (f && c))
+or-and true true true = refl
+or-and true true false = refl
+or-and true false true = refl
+or-and true false false = refl
+or-and false true true = refl
+or-and false true false = refl
+or-and false false c = refl
+
+module _ (m : Picture) (p : Plan) (t : Slots) where
+  pub repainted-sizes : (at : ℕ → ℕ → Bool) (s : Picture) → sizes (repainted m p t at s) ≡ sizes s
+  unfolding repainted
+  repainted-sizes at s = painted-sizes s _ _
+
+  pub repainted-at : (at : ℕ → ℕ → Bool) (s : Picture) (x y : ℕ)
+      → repainted m p t at s .at x y ≡ cond (at x y && changes (behind (m .width) p t x y)) (taken (s .depth) m (behind (m .width) p t x y)) (s .at x y)
+  unfolding repainted
+  repainted-at at s x y = painted-at s _ _ x y
+
+  pub repainted-none : (at : ℕ → ℕ → Bool) (s : Picture) → ((x y : ℕ) → at x y ≡ false) → repainted m p t at s ≡ s
+  unfolding repainted
+  repainted-none at s n = painted-none s _ _ (λ x y. and-left (at x y) _ (n x y))
+
+  pub repainted-as : (f g : ℕ → ℕ → Bool) (s : Picture) → ((x y : ℕ) → f x y ≡ g x y) → repainted m p t f s ≡ repainted m p t g s
+  unfolding repainted
+  repainted-as f g s e = painted-same s _ _ _ _ (λ x y. ap (λ b. b && changes (behind (m .width) p t x y)) (e x y)) (λ x y h. refl)
+
+  pub repainted-join : (f g : ℕ → ℕ → Bool) (s : Picture) → repainted m p t g (repainted m p t f s) ≡ repainted m p t (λ x y. f x y || g x y) s
+  unfolding repainted painted
+  repainted-join f g s =
+      painted-more s (λ x y. f x y && changes (behind (m .width) p t x y)) (λ x y. g x y && changes (behind (m .width) p t x y)) (λ x y. (f x y || g x y) && changes (behind (m .width) p t x y)) _ _
+      (λ x y. or-and (f x y) (g x y) (changes (behind (m .width) p t x y))) (λ x y h. refl)
+
+  -- A place with a pixel on the screen alone stays; any other gets what there is for it.
+  pub repainted-skip : (x y : ℕ) (s : Picture) → behind (m .width) p t x y ≡ Alone → repainted m p t (just x y) s ≡ s
+  unfolding repainted
+  repainted-skip x y s e = painted-none s _ _ (λ a b. none a b (just x y a b) refl)
+    where
+      none : (a b : ℕ) (c : Bool) → just x y a b ≡ c → (c && changes (behind (m .width) p t a b)) ≡ false
+      none a b true h = let q = is-just x y a b h in ap changes (ap₂ (behind (m .width) p t) (q .0) (q .1) ∙ e)
+      none a b false h = refl
+
+  pub repainted-one : (x y v : ℕ) (s : Picture) → changes (behind (m .width) p t x y) ≡ true → v ≡ taken (s .depth) m (behind (m .width) p t x y)
+      → with-pixel s x y v ≡ repainted m p t (just x y) s
+  unfolding repainted
+  repainted-one x y v s e ev = painted-same s _ _ _ _ (λ a b. sym (both a b (just x y a b) refl)) (λ a b h. let q = is-just x y a b h in ev ∙ ap (taken (s .depth) m) (ap₂ (behind (m .width) p t) (sym (q .0)) (sym (q .1))))
+    where
+      both : (a b : ℕ) (c : Bool) → just x y a b ≡ c → (c && changes (behind (m .width) p t a b)) ≡ c
+      both a b true h = let q = is-just x y a b h in ap changes (ap₂ (behind (m .width) p t) (q .0) (q .1)) ∙ e
+      both a b false h = refl
