@@ -1,0 +1,7 @@
+//! The desk: layers that overlap on a screen, what is covered kept in a store.
+mod ask;
+mod book;
+mod desk;
+
+pub use book::Book;
+pub use desk::Desk;
