@@ -1,2 +1,4 @@
 pub mod Turns
 pub mod Sights
+pub mod Orders
+pub mod Sifts

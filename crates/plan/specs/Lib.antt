@@ -1,3 +1,4 @@
 pub mod Frames
 pub mod Plans
 pub mod Areas
+pub mod Arranged

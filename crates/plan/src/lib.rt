@@ -1,4 +1,5 @@
 //! Arrangements of layers and tables of slots, in plain numbers.
+mod arrange;
 mod ask;
 mod frame;
 mod plan;
