@@ -1,4 +1,5 @@
 //! Where the pixels of layers lie: visible ones on the screen, the others in slots of the store.
+mod find;
 mod single;
 mod spot;
 
