@@ -1,4 +1,5 @@
 pub mod Places
 pub mod Singles
+pub mod Finds
 pub mod Puts
 pub mod Papers

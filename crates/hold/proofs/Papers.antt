@@ -7,6 +7,7 @@ use Prim.Native.Nat.{ℕ, _^_, _<_}
 use native.Mathlib.Omega.{arith}
 use lib.Dec.{eqb, ltb}
 use lib.IntN.{ℤ, pos, natAbs, _+ℤ_, _-ℤ_}
+use lib.Pow.{pow-mono}
 use lib.ListN.{getD}
 use Rattle.std.proofs.shelf.Signed.{ints}
 use Rattle.std.proofs.shelf.Ways.{tells}
@@ -30,9 +31,10 @@ use Rattle.plan.specs.declared.slots.Slots.{Slots}
 use Rattle.plan.specs.Frames.{no-frame, has, distinct}
 use Rattle.plan.specs.Plans.{outline, outlines, listed, layers-in, frame-in, above, seen}
 use Rattle.hold.specs.declared.spot.Spot.{Spot}
-use Rattle.hold.specs.Spots.{spot-of, screen-spot, store-spot, look, screen-with, store-with}
-use Rattle.hold.specs.Held.{Pixels, with-one, layer-with, layers-with, held, paper-of, layer-held, Holds, Fitting, Own-pixel, Drawn}
-use Rattle.hold.proofs.Places.{seen-place, seen-covers, covered-listed, spot-by}
+use Rattle.hold.specs.declared.spot.Spot.the-variants.{Screen, Store}
+use Rattle.hold.specs.Spots.{spot-of, screen-spot, store-spot, look, Settable, screen-with, store-with}
+use Rattle.hold.specs.Held.{Pixels, with-one, layer-with, layers-with, held, paper-of, layer-held, Holds, Fitting, Own-pixel, Drawn, Pixel-put}
+use Rattle.hold.proofs.Places.{seen-place, seen-covers, covered-listed, spot-by, Within, spot-within}
 use Rattle.hold.proofs.Puts.{screen-with-sizes, store-with-sizes, fitting-same, elsewhere, held-put}
 
 -- ── Layers with pixels ──
@@ -323,3 +325,44 @@ module _ (screen store : Picture) (p : Plan) (t : Slots) (f : Fitting screen sto
         screen-drawn screen store (screen-with screen at value) (store-with store at value) p t
         (fitting-same screen store _ _ p t (screen-with-sizes screen at value) (store-with-sizes store at value) f) (screen-with-sizes screen at value) put-bare;
   }
+
+pub pixel-put : (screen store screen′ store′ : Picture) (p : Plan) (t : Slots) → Fitting screen store p t → (c u v value : ℕ) → Own-pixel p c u v → value < 2 ^ screen .depth
+    → screen′ ≡ screen-with screen (spot-of (store .width) p t c u v) value → store′ ≡ store-with store (spot-of (store .width) p t c u v) value
+    → Pixel-put p t screen store screen′ store′ c u v value
+pixel-put screen store screen′ store′ p t f c u v value o small es et =
+    let at = spot-of (store .width) p t c u v in
+    let s1 = screen-with screen at value in
+    let t1 = store-with store at value in
+    record {
+      on-screen = es;
+      in-store = et;
+      fitting = fitting-same screen store screen′ store′ p t (ap sizes es ∙ screen-with-sizes screen at value) (ap sizes et ∙ store-with-sizes store at value) f;
+      pixels =
+          subst (λ (s : Picture). Holds s store′ p t (with-one (held screen store p t) c u v value)) (sym es)
+          (subst (λ (m : Picture). Holds s1 m p t (with-one (held screen store p t) c u v value)) (sym et) (held-put screen store value p t f small c u v o));
+      drawn =
+          subst (λ (s : Picture). Drawn p t screen store s store′ c (with-pixel (layer-held screen store p t c) u v value)) (sym es)
+          (subst (λ (m : Picture). Drawn p t screen store s1 m c (with-pixel (layer-held screen store p t c) u v value)) (sym et) (put-drawn screen store p t f value c u v o small));
+    }
+
+-- The spot that was found, set on the screen or in the store.
+module _ (screen store : Picture) (p : Plan) (t : Slots) (f : Fitting screen store p t) (c u v value : ℕ) (o : Own-pixel p c u v) (small : value < 2 ^ screen .depth)
+    (width : ℕ) (w : store .width ≡ width) (x y : ℕ) where
+  at-spot : (s : Spot) → _≡_ {A = Option Spot} (Some s) (Some (spot-of width p t c u v)) → s ≡ spot-of (store .width) p t c u v
+  at-spot s e = let q : s ≡ spot-of width p t c u v = cc in q ∙ ap (λ n. spot-of n p t c u v) (sym w)
+
+  pub put-on-screen : (screen′ : Picture) → _≡_ {A = Option Spot} (Some (Screen x y)) (Some (spot-of width p t c u v)) → (Settable screen x y value → screen′ ≡ with-pixel screen x y value)
+      → Pixel-put p t screen store screen′ store c u v value
+  put-on-screen screen′ e set =
+      let at = at-spot (Screen x y) e in
+      let q = subst (Within screen store) (sym at) (spot-within screen store p t f c u v o) in
+      pixel-put screen store screen′ store p t f c u v value o small
+      (set (record { across = q .0; down = q .1; small = small }) ∙ ap (λ s. screen-with screen s value) at) (ap (λ s. store-with store s value) at)
+
+  pub put-in-store : (store′ : Picture) → _≡_ {A = Option Spot} (Some (Store x y)) (Some (spot-of width p t c u v)) → (Settable store x y value → store′ ≡ with-pixel store x y value)
+      → Pixel-put p t screen store screen store′ c u v value
+  put-in-store store′ e set =
+      let at = at-spot (Store x y) e in
+      let q = subst (Within screen store) (sym at) (spot-within screen store p t f c u v o) in
+      pixel-put screen store screen store′ p t f c u v value o small (ap (λ s. screen-with screen s value) at)
+      (set (record { across = q .0; down = q .1; small = omega (arith, pow-mono (q .2)) }) ∙ ap (λ s. store-with store s value) at)

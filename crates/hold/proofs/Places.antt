@@ -177,7 +177,8 @@ Within screen store (Store x y) = (x < store .width) × (y < store .height) × (
 inside-below : (s : Size) (x y : ℕ) → inside s (pos x) (pos y) ≡ true → (x < s .width) × (y < s .height)
 inside-below s x y e = (grind (arith, ints, tells), grind (arith, ints, tells))
 
-some-across : (k n m : ℕ) → k < n * m → 0 < n
+-- a product that is not 0
+pub some-across : (k n m : ℕ) → k < n * m → 0 < n
 some-across k zero m h = absurd (omega (arith, zero-mul m))
 some-across k (suc n) m h = omega arith
 

@@ -4,7 +4,7 @@ use mathlib.Core.Bool.{Bool, true, cond, _&&_}
 use mathlib.Core.List.{List, [], _∷_}
 use Prim.Native.Nat.{ℕ, _<_}
 use lib.Dec.{eqb, ltb}
-use Rattle.raster.specs.Picture.{Picture, sizes}
+use Rattle.raster.specs.Picture.{Picture, sizes, with-pixel}
 use Rattle.paper.specs.Layers.{Layer, Desk, pane, screen-after}
 use Rattle.paper.specs.Slots.{slots-of}
 use Rattle.paper.specs.Desk.{repaint}
@@ -12,7 +12,7 @@ use Rattle.plan.specs.declared.plan.Plan.{Plan}
 use Rattle.plan.specs.declared.slots.Slots.{Slots}
 use Rattle.plan.specs.Frames.{has}
 use Rattle.plan.specs.Plans.{listed, frame-in, Fits}
-use Rattle.hold.specs.Spots.{spot-of, look}
+use Rattle.hold.specs.Spots.{spot-of, look, screen-with, store-with}
 
 -- The value of each pixel of each client's layer, by a function of client, column and row.
 abbrev pub Pixels : Type 0
@@ -80,3 +80,11 @@ pub record Drawn (p : Plan) (t : Slots) (screen store screen′ store′ : Pictu
   pub store-size : sizes store′ ≡ sizes store
   pub paper : paper-of screen′ store′ p t ≡ repaint c q (paper-of screen store p t)
   pub shows : screen′ ≡ screen-after screen (paper-of screen store p t) (paper-of screen′ store′ p t)
+
+-- One pixel of a client's layer was set, where it lies, and nothing else.
+pub record Pixel-put (p : Plan) (t : Slots) (screen store screen′ store′ : Picture) (c u v value : ℕ) : Type 0 where
+  pub on-screen : screen′ ≡ screen-with screen (spot-of (store .width) p t c u v) value
+  pub in-store : store′ ≡ store-with store (spot-of (store .width) p t c u v) value
+  pub fitting : Fitting screen′ store′ p t
+  pub pixels : Holds screen′ store′ p t (with-one (held screen store p t) c u v value)
+  pub drawn : Drawn p t screen store screen′ store′ c (with-pixel (layer-held screen store p t c) u v value)
