@@ -3,3 +3,4 @@ pub mod Stows
 pub mod Dressed
 pub mod Rearranged
 pub mod Opened
+pub mod Touched

@@ -20,6 +20,7 @@ use Rattle.raster.specs.Blt.{holds, in-rectangle, inside}
 use Rattle.raster.specs.declared.size.Size.{Size}
 use Rattle.paper.specs.Layers.{Layer, or-else, covers, covered, topmost}
 use Rattle.paper.specs.Slots.{slots-of}
+use Rattle.paper.specs.Desk.{client-if}
 use Rattle.paper.proofs.Screen.{topmost-tells, none-topmost}
 use Rattle.paper.proofs.Hidden.{covers-pixel}
 use Rattle.plan.specs.declared.frame.Frame.{Frame}
@@ -326,3 +327,47 @@ behind-one width p t x y x′ y′ a b e e′ =
     let q = shows-place p x y (k .client) (k .u) (k .v) (k .shows) in
     let q′ = shows-place p x′ y′ (k .client) (k .u) (k .v) s in
     (sym (q .0) ∙ q′ .0, sym (q .1) ∙ q′ .1)
+
+-- The client whose layer is topmost at a place, and the layer's pixel there.
+pub client-shows : (p : Plan) (x y d : ℕ) → client-if (topmost (layers-in p) (pos x) (pos y)) ≡ Some d
+    → Shows p x y d (from-corner (frame-in p d .x) x) (from-corner (frame-in p d .y) y)
+client-shows p x y d e = go (topmost (layers-in p) (pos x) (pos y)) refl e
+  where
+    go : (o : Option Layer) → topmost (layers-in p) (pos x) (pos y) ≡ o → client-if o ≡ Some d → Shows p x y d (from-corner (frame-in p d .x) x) (from-corner (frame-in p d .y) y)
+    go (Some l) eo k =
+        let same : l .client ≡ d = cc in
+        let t = top-is (listed p) (p .frames) (pos x) (pos y) l eo in
+        let own : l ≡ outline d (frame-in p d) = t .own ∙ ap (λ n. outline n (frame-in p n)) same in
+        let z = top-shows p x y (outline d (frame-in p d)) (eo ∙ ap Some own) in z
+    go None eo k = absurd (let z : _≡_ {A = ℕ} 0 1 = cc in omega arith)
+
+pub no-client : (p : Plan) (x y : ℕ) → client-if (topmost (layers-in p) (pos x) (pos y)) ≡ None → covered (layers-in p) (pos x) (pos y) ≡ false
+no-client p x y e = topmost-tells (layers-in p) (pos x) (pos y) ∙ go (topmost (layers-in p) (pos x) (pos y)) e
+  where
+    go : (o : Option Layer) → client-if o ≡ None → isSome o ≡ false
+    go (Some l) k = absurd (let z : _≡_ {A = ℕ} 0 1 = cc in omega arith)
+    go None k = refl
+
+-- The same from what the arrangement answers, and from how far the place lies past the layer's corner.
+pub record Found (p : Plan) (x y d a b : ℕ) : Type 0 where
+  pub client : d < 8
+  pub column : a < 320
+  pub row : b < 240
+  pub is : (width : ℕ) (t : Slots) → kept-pixel width t d a b ≡ behind width p t x y
+
+pub found : (p : Plan) (x y d a b : ℕ) (zx zy : ℤ) (f : Frame) (fx fy : ℤ) → zx ≡ pos x → zy ≡ pos y → Some d ≡ client-if (topmost (layers-in p) zx zy)
+    → f ≡ frame-in p d → fx ≡ f .x → fy ≡ f .y → ((n : ℕ) → n < 320 → pos x ≡ fx +ℤ pos n → a ≡ n) → ((n : ℕ) → n < 320 → pos y ≡ fy +ℤ pos n → b ≡ n) → Found p x y d a b
+found p x y d a b zx zy f fx fy ex ey e ef efx efy ha hb =
+    let u : ℕ = from-corner (frame-in p d .x) x in
+    let v : ℕ = from-corner (frame-in p d .y) y in
+    let s : Shows p x y d u v = client-shows p x y d (ap₂ (λ i j. client-if (topmost (layers-in p) i j)) (sym ex) (sym ey) ∙ sym e) in
+    let r = real p d u v (s .listed) (s .column) (s .row) in
+    let rc = r .column in let rr = r .row in
+    let ea : a ≡ u = ha u rc (s .across ∙ ap (λ z. z +ℤ pos u) (sym (efx ∙ ap (λ (g : Frame). g .x) ef))) in
+    let eb : b ≡ v = hb v (omega arith) (s .down ∙ ap (λ z. z +ℤ pos v) (sym (efy ∙ ap (λ (g : Frame). g .y) ef))) in
+    record {
+      client = r .client;
+      column = omega arith;
+      row = omega arith;
+      is = λ width t. ap₂ (kept-pixel width t d) ea eb ∙ sym (shows-behind width p t x y d u v s);
+    }

@@ -12,12 +12,8 @@ use Rattle.plan.specs.declared.plan.Plan.{Plan}
 use Rattle.plan.specs.declared.slots.Slots.{Slots}
 use Rattle.moving.specs.declared.backing.Backing.{Backing}
 use Rattle.moving.specs.declared.backing.Backing.the-variants.{Bare, Alone, Kept}
-use Rattle.moving.specs.Phases.{behind, Stowed, changes, taken, repainted}
+use Rattle.moving.specs.Phases.{just, behind, Stowed, changes, taken, repainted}
 use Rattle.moving.proofs.Places.{behind-one}
-
--- The one place (x, y).
-abbrev pub just : (x y : ℕ) → ℕ → ℕ → Bool
-just x y a b = eqb a x && eqb b y
 
 pub is-just : (x y a b : ℕ) → just x y a b ≡ true → (a ≡ x) × (b ≡ y)
 is-just x y a b e = let q = and-parts (eqb a x) (eqb b y) e in (eqb-true a x (q .0), eqb-true b y (q .1))

@@ -2,6 +2,7 @@
 use mathlib.Core.Path.{_≡_}
 use mathlib.Core.Bool.{Bool, true, false, cond, _&&_}
 use Prim.Native.Nat.{ℕ, _+_, _*_, _/_, _%_, _^_, _<_}
+use lib.Dec.{eqb}
 use lib.IntN.{ℤ, pos, natAbs, _-ℤ_}
 use Rattle.std.specs.declared.option.Option.{Option}
 use Rattle.std.specs.declared.option.Option.the-variants.{Some, None}
@@ -26,6 +27,10 @@ pub record Fitting (screen store : Picture) (p : Plan) (t : Slots) : Type 0 wher
 -- The screen places of a rectangle.
 abbrev pub on-screen : Size → Frame → (x y : ℕ) → Bool
 on-screen s f x y = in-rectangle (f .x) (f .y) (f .w) (f .h) (pos x) (pos y) && inside s (pos x) (pos y)
+
+-- The one place (x, y).
+abbrev pub just : (x y : ℕ) → ℕ → ℕ → Bool
+just x y a b = eqb a x && eqb b y
 
 -- The place in a store of the pixel (u, v) of a client's layer, if its patch has a slot.
 abbrev pub store-x : (width : ℕ) → Slots → (client u v : ℕ) → ℕ

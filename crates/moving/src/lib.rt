@@ -1,4 +1,6 @@
 //! The phases by which a desk goes from one arrangement of layers to another.
 mod backing;
+mod pixel;
+mod stow;
 
 pub use backing::Backing;
