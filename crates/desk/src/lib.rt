@@ -2,6 +2,7 @@
 mod ask;
 mod book;
 mod desk;
+mod read;
 
 pub use book::Book;
 pub use desk::Desk;
