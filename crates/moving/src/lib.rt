@@ -1,6 +1,7 @@
 //! The phases by which a desk goes from one arrangement of layers to another.
 mod backing;
 mod pixel;
-mod stow;
+mod stowing;
 
 pub use backing::Backing;
+pub use stowing::stow;
