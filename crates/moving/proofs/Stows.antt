@@ -4,9 +4,13 @@ use mathlib.Core.Bool.{Bool, true, false, cond, _&&_, _||_}
 use mathlib.Core.Logic.{⊎-elim}
 use Prim.Native.Nat.{ℕ, zero, suc, _+_, _*_, _/_, _^_, _<_, _≤_}
 use native.Mathlib.Omega.{arith}
+use native.Mathlib.Nat.{mod-lt}
 use lib.Dec.{eqb, ltb}
 use lib.Pow.{pow-mono}
 use Rattle.std.proofs.shelf.Tests.{and-parts, and-from, and-left, and-right, or-cases, or-left, or-right, both-ways, eqb-true, eq-eqb, cond-true, cond-false}
+use Rattle.std.proofs.shelf.Bits.{pow-pos}
+use Rattle.std.specs.declared.option.Option.{Option}
+use Rattle.std.specs.declared.option.Option.the-variants.{Some, None}
 use Rattle.raster.specs.Picture.{Picture, sizes, painted, with-pixel}
 use Rattle.raster.proofs.Paints.{painted-at, painted-sizes, painted-same, painted-none, painted-more}
 use Rattle.paper.specs.Slots.{slots-of}
@@ -164,3 +168,36 @@ module _ (s m : Picture) (p : Plan) (t : Slots) (x y w : ℕ) (fit : Fitting s m
 
   pub stow-rest : ((a b : ℕ) → r ≡ Kept a b → ⊥) → Stowed s p t (just x y) m m
   stow-rest n = stowed-skip s p t x y m (λ a b k. n a b (sym behind-is ∙ k))
+
+taken-small : (depth : ℕ) (m : Picture) (r : Backing) → taken depth m r < 2 ^ depth
+taken-small depth m Bare = pow-pos depth
+taken-small depth m Alone = pow-pos depth
+taken-small depth m (Kept a b) = mod-lt (m .at a b) (pow-pos depth)
+
+some-taken : (b : Bool) (v n : ℕ) → Some v ≡ cond b (Some n) None → (b ≡ true) × (v ≡ n)
+some-taken true v n e = (refl, cc)
+some-taken false v n e = absurd (let z : _≡_ {A = ℕ} 0 1 = cc in omega arith)
+
+none-taken : (r : Backing) (n : ℕ) → None ≡ cond (changes r) (Some n) None → r ≡ Alone
+none-taken Bare n e = absurd (let z : _≡_ {A = ℕ} 0 1 = cc in omega arith)
+none-taken Alone n e = refl
+none-taken (Kept a b) n e = absurd (let z : _≡_ {A = ℕ} 0 1 = cc in omega arith)
+
+module _ (s m : Picture) (p : Plan) (t : Slots) (x y w d : ℕ) (fit : Fitting s m p t) (ew : w ≡ m .width) (ed : d ≡ s .depth) (r : Backing) (er : (0 < t .places → 16 ≤ w) → r ≡ behind w p t x y) (o : Option ℕ)
+    (eo : ((a b : ℕ) → r ≡ Kept a b → (a < m .width) × (b < m .height)) → o ≡ cond (changes r) (Some (taken d m r)) None) where
+  got : o ≡ cond (changes r) (Some (taken (s .depth) m r)) None
+  got = eo (λ a b e. let i = kept-within s m p t x y w fit ew r er a b e in (i .across, i .down)) ∙ ap (λ n. cond (changes r) (Some (taken n m r)) None) ed
+
+  pub paint-some : (v : ℕ) (s′ : Picture) → o ≡ Some v → x < s .width → y < s .height → (x < s .width → y < s .height → v < 2 ^ s .depth → s′ ≡ with-pixel s x y v) → s′ ≡ repainted m p t (just x y) s
+  paint-some v s′ e hx hy h =
+      let q = some-taken (changes r) v (taken (s .depth) m r) (sym e ∙ got) in
+      let b = behind-is s m p t x y w fit ew r er in
+      let small : v < 2 ^ s .depth = subst (λ (n : ℕ). n < 2 ^ s .depth) (sym (q .1)) (taken-small (s .depth) m r) in
+      h hx hy small ∙ repainted-one m p t x y v s (ap changes b ∙ q .0) (q .1 ∙ ap (taken (s .depth) m) (sym b))
+
+  pub paint-none : o ≡ None → s ≡ repainted m p t (just x y) s
+  paint-none e = sym (repainted-skip m p t x y s (behind-is s m p t x y w fit ew r er ∙ none-taken r (taken (s .depth) m r) (sym e ∙ got)))
+
+pub none-is : (o : Option ℕ) → ((v : ℕ) → o ≡ Some v → ⊥) → o ≡ None
+none-is (Some v) n = absurd (n v refl)
+none-is None n = refl
