@@ -4,3 +4,4 @@ pub mod Dressed
 pub mod Rearranged
 pub mod Opened
 pub mod Touched
+pub mod Areas

@@ -25,7 +25,8 @@ use Rattle.hold.specs.Held.{Pixels, held, Holds}
 use Rattle.moving.specs.Phases.{on-screen, store-x, store-y, in-store, Stowed, Blanked}
 use Rattle.moving.specs.Moves.{desk-with, fresh, Stays, Allotted, Worked}
 use Rattle.moving.proofs.Places.{listed-low, Real, real, real-patch, one-place, place-x, place-y, Shows, Seen-at, shown-by, seen-shows, shows-place, top-is}
-use Rattle.moving.proofs.Rearranged.{Small, unseen-hidden, held-seen, held-unseen, was-there, same-place, whole, worked, screen-shows}
+use Rattle.moving.proofs.Stows.{Small}
+use Rattle.moving.proofs.Rearranged.{unseen-hidden, held-seen, held-unseen, was-there, same-place, whole, worked, screen-shows}
 
 module _ (p q : Plan) (t t′ t″ : Slots) (c : ℕ) (px : Pixels) (s m m′ m″ s′ : Picture)
     (small : Small s) (holds : Holds s m p t px) (slots : Allotted p q t t′ t″) (work : Worked p q (on-screen (p .screen) (frame-in q c)))

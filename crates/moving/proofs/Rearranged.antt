@@ -34,7 +34,7 @@ use Rattle.moving.specs.declared.backing.Backing.the-variants.{Bare, Alone, Ke
 use Rattle.moving.specs.Phases.{store-x, store-y, in-store, kept-pixel, from-corner, backed, behind, Stowed, changes, taken, repainted}
 use Rattle.moving.specs.Moves.{desk-with, Stays, Allotted, Worked}
 use Rattle.moving.proofs.Places.{same-client, Real, real, real-patch, place-x, place-y, Shows, Seen-at, shown-by, shows-behind, bare-behind, shows-seen, seen-shows, shows-place, top-shows, Keeps, behind-keeps, keeps-pixel}
-use Rattle.moving.proofs.Stows.{repainted-sizes, repainted-at}
+use Rattle.moving.proofs.Stows.{Small, repainted-sizes, repainted-at}
 use Rattle.moving.proofs.Dressed.{with-covered, with-shown}
 
 -- ── An obscured pixel's patch is hidden ──
@@ -92,10 +92,6 @@ pub was-there : (s m : Picture) (p : Plan) (t : Slots) (px : Pixels) → Holds s
 was-there s m p t px holds x y d u v z on =
     let i = shows-place p x y d u v z in
     ap₂ (s .at) (sym (i .0)) (sym (i .1)) ∙ sym (held-seen s m p t d u v (shows-seen p x y d u v z on)) ∙ holds d (z .listed) u v (z .column) (z .row)
-
--- Values of a picture fit its depth.
-abbrev pub Small : Picture → Type 0
-Small s = (x y : ℕ) → s .at x y < 2 ^ s .depth
 
 -- a pixel's place in the store by two tables that agree on its slot
 pub same-place : (width : ℕ) (t t′ : Slots) (m : Picture) (d u v : ℕ) → slot-of t′ (patch-at d (u / 16) (v / 16)) ≡ slot-of t (patch-at d (u / 16) (v / 16))

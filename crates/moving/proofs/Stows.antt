@@ -2,18 +2,28 @@
 use mathlib.Core.Path.{_≡_, refl, sym, ap, ap₂, subst, _∙_}
 use mathlib.Core.Bool.{Bool, true, false, cond, _&&_, _||_}
 use mathlib.Core.Logic.{⊎-elim}
-use Prim.Native.Nat.{ℕ, _+_, _<_, _≤_}
+use Prim.Native.Nat.{ℕ, zero, suc, _+_, _*_, _/_, _^_, _<_, _≤_}
 use native.Mathlib.Omega.{arith}
-use lib.Dec.{eqb}
+use native.Mathlib.Nat.{mod-lt}
+use lib.Dec.{eqb, ltb}
+use lib.Pow.{pow-mono}
 use Rattle.std.proofs.shelf.Tests.{and-parts, and-from, and-left, and-right, or-cases, or-left, or-right, both-ways, eqb-true, eq-eqb, cond-true, cond-false}
+use Rattle.std.proofs.shelf.Bits.{pow-pos}
+use Rattle.std.specs.declared.option.Option.{Option}
+use Rattle.std.specs.declared.option.Option.the-variants.{Some, None}
 use Rattle.raster.specs.Picture.{Picture, sizes, painted, with-pixel}
 use Rattle.raster.proofs.Paints.{painted-at, painted-sizes, painted-same, painted-none, painted-more}
+use Rattle.paper.specs.Slots.{slots-of}
 use Rattle.plan.specs.declared.plan.Plan.{Plan}
 use Rattle.plan.specs.declared.slots.Slots.{Slots}
 use Rattle.moving.specs.declared.backing.Backing.{Backing}
 use Rattle.moving.specs.declared.backing.Backing.the-variants.{Bare, Alone, Kept}
-use Rattle.moving.specs.Phases.{just, behind, Stowed, changes, taken, repainted}
-use Rattle.moving.proofs.Places.{behind-one}
+use Rattle.moving.specs.Phases.{Fitting, store-x, store-y, just, behind, Stowed, changes, taken, repainted}
+use Rattle.moving.proofs.Places.{behind-one, Within, place-within, Keeps, behind-keeps}
+
+-- Values of a picture fit its depth.
+abbrev pub Small : Picture → Type 0
+Small s = (x y : ℕ) → s .at x y < 2 ^ s .depth
 
 pub is-just : (x y a b : ℕ) → just x y a b ≡ true → (a ≡ x) × (b ≡ y)
 is-just x y a b e = let q = and-parts (eqb a x) (eqb b y) e in (eqb-true a x (q .0), eqb-true b y (q .1))
@@ -123,3 +133,71 @@ module _ (m : Picture) (p : Plan) (t : Slots) where
       both : (a b : ℕ) (c : Bool) → just x y a b ≡ c → (c && changes (behind (m .width) p t a b)) ≡ c
       both a b true h = let q = is-just x y a b h in ap changes (ap₂ (behind (m .width) p t) (q .0) (q .1)) ∙ e
       both a b false h = refl
+
+-- ── One pixel, as the code does it ──
+
+-- A store with a slot is 16 wide at least.
+pub wide-enough : (s m : Picture) (p : Plan) (t : Slots) (w : ℕ) → Fitting s m p t → w ≡ m .width → 0 < t .places → 16 ≤ w
+wide-enough s m p t w f e h =
+    let q : 0 < slots-of (sizes m) (s .depth) = subst (λ (n : ℕ). 0 < n) (f .places) h in
+    go (ltb (m .depth) (s .depth)) (m .width / 16) (m .height / 16) q refl
+  where
+    go : (b : Bool) (i j : ℕ) → 0 < cond b 0 (i * j) → i ≡ m .width / 16 → 16 ≤ w
+    go true i j h k = absurd (omega arith)
+    go false zero j h k = absurd (omega arith)
+    go false (suc i) j h k = omega arith
+
+module _ (s m : Picture) (p : Plan) (t : Slots) (x y w : ℕ) (fit : Fitting s m p t) (ew : w ≡ m .width) (r : Backing) (er : (0 < t .places → 16 ≤ w) → r ≡ behind w p t x y) where
+  pub behind-is : behind (m .width) p t x y ≡ r
+  behind-is = ap (λ n. behind n p t x y) (sym ew) ∙ sym (er (wide-enough s m p t w fit ew))
+
+  -- the place of a pixel that is kept
+  pub kept-within : (a b : ℕ) → r ≡ Kept a b → Within s m a b
+  kept-within a b e =
+      let k = behind-keeps (m .width) p t x y a b (behind-is ∙ e) in
+      let i = place-within s m t (k .client) (k .u) (k .v) (fit .places) (k .stored) in
+      subst (λ (n : ℕ). Within s m n b) (sym (k .column)) (subst (λ (n : ℕ). Within s m (store-x (m .width) t (k .client) (k .u) (k .v)) n) (sym (k .row)) i)
+
+  pub stow-kept : (a b v : ℕ) (m′ : Picture) → r ≡ Kept a b → Small s → v ≡ s .at x y
+      → (a < m .width → b < m .height → v < 2 ^ m .depth → m′ ≡ with-pixel m a b v) → Stowed s p t (just x y) m m′
+  stow-kept a b v m′ e small ev h =
+      let i = kept-within a b e in
+      let less : s .at x y < 2 ^ s .depth = small x y in
+      let deep : 2 ^ s .depth ≤ 2 ^ m .depth = pow-mono (i .deep) in
+      stowed-one s p t x y a b m m′ (behind-is ∙ e) (h (i .across) (i .down) (omega arith) ∙ ap (with-pixel m a b) ev)
+
+  pub stow-rest : ((a b : ℕ) → r ≡ Kept a b → ⊥) → Stowed s p t (just x y) m m
+  stow-rest n = stowed-skip s p t x y m (λ a b k. n a b (sym behind-is ∙ k))
+
+taken-small : (depth : ℕ) (m : Picture) (r : Backing) → taken depth m r < 2 ^ depth
+taken-small depth m Bare = pow-pos depth
+taken-small depth m Alone = pow-pos depth
+taken-small depth m (Kept a b) = mod-lt (m .at a b) (pow-pos depth)
+
+some-taken : (b : Bool) (v n : ℕ) → Some v ≡ cond b (Some n) None → (b ≡ true) × (v ≡ n)
+some-taken true v n e = (refl, cc)
+some-taken false v n e = absurd (let z : _≡_ {A = ℕ} 0 1 = cc in omega arith)
+
+none-taken : (r : Backing) (n : ℕ) → None ≡ cond (changes r) (Some n) None → r ≡ Alone
+none-taken Bare n e = absurd (let z : _≡_ {A = ℕ} 0 1 = cc in omega arith)
+none-taken Alone n e = refl
+none-taken (Kept a b) n e = absurd (let z : _≡_ {A = ℕ} 0 1 = cc in omega arith)
+
+module _ (s m : Picture) (p : Plan) (t : Slots) (x y w d : ℕ) (fit : Fitting s m p t) (ew : w ≡ m .width) (ed : d ≡ s .depth) (r : Backing) (er : (0 < t .places → 16 ≤ w) → r ≡ behind w p t x y) (o : Option ℕ)
+    (eo : ((a b : ℕ) → r ≡ Kept a b → (a < m .width) × (b < m .height)) → o ≡ cond (changes r) (Some (taken d m r)) None) where
+  got : o ≡ cond (changes r) (Some (taken (s .depth) m r)) None
+  got = eo (λ a b e. let i = kept-within s m p t x y w fit ew r er a b e in (i .across, i .down)) ∙ ap (λ n. cond (changes r) (Some (taken n m r)) None) ed
+
+  pub paint-some : (v : ℕ) (s′ : Picture) → o ≡ Some v → x < s .width → y < s .height → (x < s .width → y < s .height → v < 2 ^ s .depth → s′ ≡ with-pixel s x y v) → s′ ≡ repainted m p t (just x y) s
+  paint-some v s′ e hx hy h =
+      let q = some-taken (changes r) v (taken (s .depth) m r) (sym e ∙ got) in
+      let b = behind-is s m p t x y w fit ew r er in
+      let small : v < 2 ^ s .depth = subst (λ (n : ℕ). n < 2 ^ s .depth) (sym (q .1)) (taken-small (s .depth) m r) in
+      h hx hy small ∙ repainted-one m p t x y v s (ap changes b ∙ q .0) (q .1 ∙ ap (taken (s .depth) m) (sym b))
+
+  pub paint-none : o ≡ None → s ≡ repainted m p t (just x y) s
+  paint-none e = sym (repainted-skip m p t x y s (behind-is s m p t x y w fit ew r er ∙ none-taken r (taken (s .depth) m r) (sym e ∙ got)))
+
+pub none-is : (o : Option ℕ) → ((v : ℕ) → o ≡ Some v → ⊥) → o ≡ None
+none-is (Some v) n = absurd (n v refl)
+none-is None n = refl

@@ -5,7 +5,7 @@ use Prim.Native.Nat.{ℕ, _^_, _<_, _≤_}
 use native.Mathlib.Omega.{arith}
 use lib.Dec.{leb}
 use mir.Syntax.{w16}
-use mir.Val.{toZ, ofZ}
+use mir.Val.{toZ, ofZ, SFits}
 use lib.IntN.{ℤ, pos, natAbs}
 use Rattle.std.proofs.shelf.Signed.{ints}
 use Rattle.std.proofs.shelf.Ways.{tells}
@@ -43,3 +43,6 @@ as-passed z x n h l m =
   where
     whole : (x : ℕ) → x < 32768 → toZ w16 (ofZ w16 (pos x)) ≡ pos x
     whole x b = omega (arith, ints)
+
+pub as-was : (z : ℤ) → SFits w16 z → toZ w16 (ofZ w16 z) ≡ z
+as-was z f = omega (arith, ints)

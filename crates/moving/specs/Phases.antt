@@ -8,7 +8,9 @@ use Rattle.std.specs.declared.option.Option.{Option}
 use Rattle.std.specs.declared.option.Option.the-variants.{Some, None}
 use Rattle.raster.specs.Picture.{Picture, sizes, painted}
 use Rattle.raster.specs.Blt.{in-rectangle, inside}
+use Rattle.raster.specs.Blits.{spans}
 use Rattle.raster.specs.declared.size.Size.{Size}
+use Rattle.raster.specs.declared.span.Span.{Span}
 use Rattle.paper.specs.Layers.{Layer, topmost}
 use Rattle.paper.specs.Slots.{slots-of}
 use Rattle.plan.specs.declared.frame.Frame.{Frame}
@@ -31,6 +33,10 @@ on-screen s f x y = in-rectangle (f .x) (f .y) (f .w) (f .h) (pos x) (pos y) && 
 -- The one place (x, y).
 abbrev pub just : (x y : ℕ) → ℕ → ℕ → Bool
 just x y a b = eqb a x && eqb b y
+
+-- The places of a row in some columns.
+abbrev pub in-row : (columns : Span) (y : ℕ) → ℕ → ℕ → Bool
+in-row columns y a b = spans columns a && eqb b y
 
 -- The place in a store of the pixel (u, v) of a client's layer, if its patch has a slot.
 abbrev pub store-x : (width : ℕ) → Slots → (client u v : ℕ) → ℕ

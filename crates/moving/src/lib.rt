@@ -1,6 +1,9 @@
 //! The phases by which a desk goes from one arrangement of layers to another.
 mod backing;
+mod painting;
 mod pixel;
-mod stow;
+mod stowing;
 
 pub use backing::Backing;
+pub use painting::repaint;
+pub use stowing::stow;
