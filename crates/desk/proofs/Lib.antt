@@ -1,3 +1,5 @@
 pub mod Fits
 pub mod Checks
 pub mod Answered
+pub mod Idle
+pub mod Drawn

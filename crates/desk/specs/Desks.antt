@@ -8,8 +8,11 @@ use Rattle.raster.specs.declared.bitmap.Bitmap.{Ghosts}
 use Rattle.raster.specs.declared.size.Size.{Size}
 use Rattle.paper.specs.Layers as paper
 use Rattle.paper.specs.Layers.{new-desk}
-use Rattle.paper.specs.Slots.{slots-of, hidden-count}
+use Rattle.raster.specs.Rules.{total}
+use Rattle.paper.specs.Slots.{slots-of}
 use Rattle.paper.specs.Run.{State}
+use Rattle.plan.specs.declared.slots.Slots.{Slots}
+use Rattle.plan.specs.Plans.{has-slot}
 use Rattle.hold.specs.Held.{paper-of}
 use Rattle.desk.specs.declared.book.Book.{Book}
 use Rattle.desk.specs.declared.desk.Desk.{Desk}
@@ -27,13 +30,23 @@ unfoldable pub on-pictures : (screen store : Picture) → Book → paper.Desk
 on-pictures screen store b =
     cond (made-for screen store b) (paper-of screen store (b .plan) (b .slots)) (new-desk (sizes screen) (slots-of (sizes store) (screen .depth)))
 
+-- The slots in use, by the book.
+unfoldable pub in-use : Slots → ℕ
+in-use t = total (λ k. cond (has-slot t k) 1 0) 2400
+
+unfoldable pub used-by : (screen store : Picture) → Book → ℕ
+used-by screen store b = cond (made-for screen store b) (in-use (b .slots)) 0
+
+-- What stands: the desk on paper, the pixels in the screen, and the slots in use.
+abbrev pub state-on : (screen store : Picture) → Book → State
+state-on screen store b = record { paper = on-pictures screen store b; screen = screen; used = used-by screen store b }
+
 module _ {S T : Type 0} (s : Ghosts S) (t : Ghosts T) where
   abbrev pub on-paper : Desk S T → paper.Desk
   on-paper d = on-pictures (s .picture (d .screen)) (t .picture (d .store)) (d .book)
 
-  -- What stands: the desk on paper, the pixels in the screen, and the slots in use.
   abbrev pub state-of : Desk S T → State
-  state-of d = record { paper = on-paper d; screen = s .picture (d .screen); used = hidden-count (on-paper d) }
+  state-of d = state-on (s .picture (d .screen)) (t .picture (d .store)) (d .book)
 
   -- What is no pixel of screen or store stays.
   pub record Keeps (d e : Desk S T) : Type 0 where

@@ -2,6 +2,7 @@
 mod ask;
 mod book;
 mod desk;
+mod drawing;
 mod read;
 
 pub use book::Book;
