@@ -1,2 +1,3 @@
 pub mod Strokes
 pub mod Stamped
+pub mod Stamps

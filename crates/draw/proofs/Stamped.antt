@@ -19,7 +19,8 @@ use Rattle.raster.specs.declared.span.Span.{Span}
 use Rattle.raster.specs.declared.blit.Blit.{Blit}
 use Rattle.raster.proofs.Paints.{same-picture, painted-at, painted-sizes, painted-same, painted-none, painted-more}
 use Rattle.raster.proofs.Counts.{clipped-count}
-use Rattle.draw.specs.Stamps.{stamped, Clips}
+use Rattle.draw.specs.Touches.{touched}
+use Rattle.draw.specs.Stamps.{stamped-value, stamped-row, stamped-rows}
 
 -- ── Pixel by pixel ──
 
@@ -47,60 +48,45 @@ back-from : (s : Span) (i x : ℕ) → x ≡ s .first + i → opposite s x ≡ s
 back-from s i x e = omega arith
 
 module _ (rule : ℕ) (source : Picture) (cols : Span) where
-  -- the value of a stamped pixel, from the source row sy
-  abbrev value : Picture → (sy x y : ℕ) → ℕ
-  value p sy x y = combined (p .depth) rule (source .at (opposite cols x) sy) (p .at x y)
-
-  -- row y after the first n columns, from the source row sy
-  unfoldable pub stamped-row : (n y sy : ℕ) → Picture → Picture
-  stamped-row n y sy p = painted p (λ x z. between (cols .first) n x && eqb z y) (λ x z. value p sy x z)
-
-  pub stamped-row-none : (y sy : ℕ) (p : Picture) → p ≡ stamped-row 0 y sy p
+  pub row-none : (y sy : ℕ) (p : Picture) → p ≡ stamped-row rule source cols 0 y sy p
   unfolding stamped-row
-  stamped-row-none y sy p = sym (painted-none p _ _ (λ x z. and-left _ _ (none-between (cols .first) x)))
+  row-none y sy p = sym (painted-none p _ _ (λ x z. and-left _ _ (none-between (cols .first) x)))
 
-  pub stamped-row-more : (i y sy : ℕ) (p q : Picture) → q ≡ stamped-row i y sy p
-      → with-pixel q (cols .first + i) y (combined (q .depth) rule (source .at (cols .source + i) sy) (q .at (cols .first + i) y)) ≡ stamped-row (i + 1) y sy p
+  pub row-more : (i y sy : ℕ) (p q : Picture) → q ≡ stamped-row rule source cols i y sy p
+      → touched rule (source .at (cols .source + i) sy) (cols .first + i) y q ≡ stamped-row rule source cols (i + 1) y sy p
   unfolding stamped-row
-  stamped-row-more i y sy p q e =
+  row-more i y sy p q e =
       let at : ℕ = cols .first + i in
       let t : ℕ → ℕ → Bool = λ x z. between (cols .first) i x && eqb z y in
-      ap (λ (r : Picture). with-pixel r at y (combined (r .depth) rule (source .at (cols .source + i) sy) (r .at at y))) e
+      ap (touched rule (source .at (cols .source + i) sy) at y) e
       ∙ painted-more p t (λ x z. eqb x at && eqb z y) (λ x z. between (cols .first) (i + 1) x && eqb z y) _ _
       (λ x z. ap (λ b. b && eqb z y) (more-between (cols .first) i x) ∙ or-and (eqb x at) (between (cols .first) i x) (eqb z y))
       (λ x z u.
       let k = and-parts (eqb x at) (eqb z y) u in
       let ex : x ≡ at = eqb-true x at (k .0) in
       let ez : z ≡ y = eqb-true z y (k .1) in
-      ap (λ (n : Size). combined (n .depth) rule (source .at (cols .source + i) sy) (painted p t (λ a b. value p sy a b) .at at y)) (painted-sizes p t _)
+      ap (λ (n : Size). combined (n .depth) rule (source .at (cols .source + i) sy) (painted p t (λ a b. stamped-value rule source cols p sy a b) .at at y)) (painted-sizes p t _)
       ∙ ap₂ (λ m n. combined (p .depth) rule m n) (ap (λ n. source .at n sy) (sym (back-from cols i x ex)))
       (painted-at p t _ at y ∙ cond-false _ _ _ (and-left _ _ (not-between (cols .first) i)) ∙ ap₂ (p .at) (sym ex) (sym ez)))
 
   module _ (rows : Span) where
-    -- the first n rows
-    unfoldable pub stamped-rows : (n : ℕ) → Picture → Picture
-    stamped-rows n p = painted p (λ x z. spans cols x && between (rows .first) n z) (λ x z. value p (opposite rows z) x z)
-
-    pub stamped-rows-none : (p : Picture) → p ≡ stamped-rows 0 p
+    pub rows-none : (p : Picture) → p ≡ stamped-rows rule source cols rows 0 p
     unfolding stamped-rows
-    stamped-rows-none p = sym (painted-none p _ _ (λ x z. and-right _ _ (none-between (rows .first) z)))
+    rows-none p = sym (painted-none p _ _ (λ x z. and-right _ _ (none-between (rows .first) z)))
 
-    pub stamped-rows-all : (p : Picture) → stamped-rows (rows .len) p ≡ stamped rule cols rows source p
-    unfolding stamped-rows stamped
-    stamped-rows-all p = refl
-
-    pub stamped-rows-more : (j : ℕ) (p q : Picture) → q ≡ stamped-rows j p → stamped-row (cols .len) (rows .first + j) (rows .source + j) q ≡ stamped-rows (j + 1) p
+    pub rows-more : (j : ℕ) (p q : Picture) → q ≡ stamped-rows rule source cols rows j p
+        → stamped-row rule source cols (cols .len) (rows .first + j) (rows .source + j) q ≡ stamped-rows rule source cols rows (j + 1) p
     unfolding stamped-rows stamped-row
-    stamped-rows-more j p q e =
+    rows-more j p q e =
         let at : ℕ = rows .first + j in
         let t : ℕ → ℕ → Bool = λ x z. spans cols x && between (rows .first) j z in
-        ap (λ (r : Picture). stamped-row (cols .len) at (rows .source + j) r) e
+        ap (λ (r : Picture). stamped-row rule source cols (cols .len) at (rows .source + j) r) e
         ∙ painted-more p t (λ x z. spans cols x && eqb z at) (λ x z. spans cols x && between (rows .first) (j + 1) z) _ _
         (λ x z. ap (λ b. spans cols x && b) (more-between (rows .first) j z) ∙ and-or (spans cols x) (eqb z at) (between (rows .first) j z))
         (λ x z u.
         let k = and-parts (spans cols x) (eqb z at) u in
         let ez : z ≡ at = eqb-true z at (k .1) in
-        ap (λ (n : Size). combined (n .depth) rule (source .at (opposite cols x) (rows .source + j)) (painted p t (λ a b. value p (opposite rows b) a b) .at x z)) (painted-sizes p t _)
+        ap (λ (n : Size). combined (n .depth) rule (source .at (opposite cols x) (rows .source + j)) (painted p t (λ a b. stamped-value rule source cols p (opposite rows b) a b) .at x z)) (painted-sizes p t _)
         ∙ ap₂ (λ m n. combined (p .depth) rule m n) (ap (source .at (opposite cols x)) (sym (back-from rows j z ez)))
         (painted-at p t _ x z ∙ cond-false _ _ _ (and-right _ _ (ap (between (rows .first) j) ez ∙ not-between (rows .first) j))))
 
@@ -117,22 +103,26 @@ two-axes true false true d false f = refl
 two-axes true false false d e f = refl
 two-axes false b c d e f = refl
 
-module _ (t : Transfer) (source d : Picture) (cols rows : Span) (k : Clips t (sizes source) (sizes d) cols rows) where
-  clips-spans : (x y : ℕ) → concerned t (from-picture source) (sizes d) x y ≡ (spans cols x && spans rows y)
+module _ (t : Transfer) (source d : Picture) (cols rows : Span)
+    (across : Clipped (t .sx) (t .dx) (t .w) (source .width) (d .width) cols) (down : Clipped (t .sy) (t .dy) (t .h) (source .height) (d .height) rows) where
+  clip-spans : (x y : ℕ) → concerned t (from-picture source) (sizes d) x y ≡ (spans cols x && spans rows y)
   unfolding concerned hits
-  clips-spans x y =
+  clip-spans x y =
       two-axes (holds (t .dx) (t .w) (pos x)) (holds (t .dy) (t .h) (pos y)) (holds (pos 0) (d .width) (pos x)) (holds (pos 0) (d .height) (pos y))
       (holds (pos 0) (source .width) (behind (t .sx) (t .dx) x)) (holds (pos 0) (source .height) (behind (t .sy) (t .dy) y))
-      ∙ ap (λ z. z && hits (t .sy) (t .dy) (t .h) (source .height) (d .height) y) (k .across .hit x) ∙ ap (λ z. spans cols x && z) (k .down .hit y)
+      ∙ ap (λ z. z && hits (t .sy) (t .dy) (t .h) (source .height) (d .height) y) (across .hit x) ∙ ap (λ z. spans cols x && z) (down .hit y)
 
-  pub stamped-blt : stamped (t .rule) cols rows source d ≡ blt t (from-picture source) d
-  unfolding stamped blt
-  stamped-blt =
-      sym (painted-same d (concerned t (from-picture source) (sizes d)) (λ x y. spans cols x && spans rows y) _ _ clips-spans
+  -- All rows stamped is the BitBlt.
+  pub stamped-blt : (rule : ℕ) → rule ≡ t .rule → stamped-rows rule source cols rows (rows .len) d ≡ blt t (from-picture source) d
+  unfolding stamped-rows blt
+  stamped-blt rule e =
+      sym (painted-same d (concerned t (from-picture source) (sizes d)) (λ x y. spans cols x && spans rows y) _ _ clip-spans
       (λ x y u.
-      let q = and-parts (spans cols x) (spans rows y) (sym (clips-spans x y) ∙ u) in
-      ap₂ (λ a b. combined (d .depth) (t .rule) (source .at (natAbs a) (natAbs b)) (d .at x y)) (k .across .back x (q .0)) (k .down .back y (q .1))))
+      let q = and-parts (spans cols x) (spans rows y) (sym (clip-spans x y) ∙ u) in
+      ap (λ n. combined (d .depth) n (source .at (natAbs (behind (t .sx) (t .dx) x)) (natAbs (behind (t .sy) (t .dy) y))) (d .at x y)) (sym e)
+      ∙ ap₂ (λ a b. combined (d .depth) rule (source .at (natAbs a) (natAbs b)) (d .at x y)) (across .back x (q .0)) (down .back y (q .1))))
 
+  -- As many pixels are stamped as the BitBlt concerns.
   pub stamped-count : (r : Rule) → rows .len * cols .len ≡ count t (from-picture source) (sizes d)
   stamped-count r =
-      clipped-count t (from-picture source) d (record { rule = r; ink = Value 0; columns = cols; rows = rows }) (k .across .paints) (k .down .paints) clips-spans
+      clipped-count t (from-picture source) d (record { rule = r; ink = Value 0; columns = cols; rows = rows }) (across .paints) (down .paints) clip-spans
