@@ -5,3 +5,4 @@ pub mod Rearranged
 pub mod Opened
 pub mod Touched
 pub mod Areas
+pub mod Blanks
