@@ -6,3 +6,4 @@ pub mod Opened
 pub mod Touched
 pub mod Areas
 pub mod Blanks
+pub mod Orders
