@@ -5,3 +5,5 @@ pub mod Rearranged
 pub mod Opened
 pub mod Touched
 pub mod Areas
+pub mod Blanks
+pub mod Orders

@@ -8,7 +8,7 @@ use Rattle.std.specs.declared.option.Option.{Option}
 use Rattle.std.specs.declared.option.Option.the-variants.{Some, None}
 use Rattle.raster.specs.Picture.{Picture, sizes, painted}
 use Rattle.raster.specs.Blt.{in-rectangle, inside}
-use Rattle.raster.specs.Blits.{spans}
+use Rattle.raster.specs.Blits.{between, spans}
 use Rattle.raster.specs.declared.size.Size.{Size}
 use Rattle.raster.specs.declared.span.Span.{Span}
 use Rattle.paper.specs.Layers.{Layer, topmost}
@@ -86,6 +86,10 @@ taken depth store (Kept a b) = store .at a b % 2 ^ depth
 unfoldable pub repainted : (store : Picture) → Plan → Slots → (at : ℕ → ℕ → Bool) → Picture → Picture
 repainted store p t at screen =
     painted screen (λ x y. at x y && changes (behind (store .width) p t x y)) (λ x y. taken (screen .depth) store (behind (store .width) p t x y))
+
+-- The square of slot k.
+abbrev pub in-slot : (width k : ℕ) → ℕ → ℕ → Bool
+in-slot width k a b = between (slot-x width k) 16 a && between (slot-y width k) 16 b
 
 -- The store after the slots of a client's patches were set to 0, each a whole square.
 pub record Blanked (t : Slots) (c : ℕ) (before after : Picture) : Type 0 where

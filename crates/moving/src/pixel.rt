@@ -6,7 +6,7 @@ ghost use Rattle.raster.specs.Picture.{sizes, with-pixel};
 use raster::Bitmap;
 
 /// A coordinate as the calls of a bitmap take it.
-fn signed(a: u16) -> i16
+pub(crate) fn signed(a: u16) -> i16
     ensures { λ r. ⌜ (a < 32768 → r ≡ pos a) ⌝ }
 {
     if a < 32768 {
