@@ -3,3 +3,4 @@ pub mod Checks
 pub mod Answered
 pub mod Idle
 pub mod Drawn
+pub mod Stamped

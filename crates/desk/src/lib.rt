@@ -4,6 +4,7 @@ mod book;
 mod desk;
 mod drawing;
 mod read;
+mod stamping;
 
 pub use book::Book;
 pub use desk::Desk;
