@@ -3,3 +3,4 @@ pub mod Sights
 pub mod Orders
 pub mod Sifts
 pub mod Patches
+pub mod Counts

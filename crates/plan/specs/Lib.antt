@@ -2,3 +2,4 @@ pub mod Frames
 pub mod Plans
 pub mod Areas
 pub mod Arranged
+pub mod Allots

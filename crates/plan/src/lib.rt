@@ -2,6 +2,7 @@
 mod arrange;
 mod ask;
 mod frame;
+mod marks;
 mod plan;
 mod slots;
 mod tables;
