@@ -6,6 +6,7 @@ mod laws;
 mod marks;
 mod plan;
 mod slots;
+mod start;
 mod tables;
 
 pub use frame::Frame;
