@@ -1,7 +1,6 @@
 //! Questions about an arrangement.
 ghost use mathlib.Core.Path.{_≡_};
 ghost use mathlib.Core.Bool.{true, cond, not, _&&_};
-ghost use mathlib.Core.List.{[]};
 ghost use Prim.Native.Nat.{ℕ, _<_, _≤_};
 ghost use lib.Dec.{ltb};
 ghost use lib.IntN.{pos, natAbs, _+ℤ_};
@@ -14,16 +13,8 @@ ghost use Rattle.plan.specs.Frames.{has};
 ghost use Rattle.plan.specs.Plans.{listed, layers-in, frame-in, outlines, above, seen, hidden-patch};
 ghost use Rattle.plan.specs.Areas.{reaches, meets, met, within, on-screen, hidden-area};
 use crate::frame::Frame;
+use crate::frame::NOWHERE;
 use crate::plan::Plan;
-use raster::Size;
-
-/// The frame of no layer.
-const NOWHERE: Frame = Frame {
-    x: 0,
-    y: 0,
-    w: 0,
-    h: 0,
-};
 
 /// Whether one of the `n` numbers from `from` on lies from `a` up to `b`, where a < b.
 fn reaches(from: i16, n: u16, a: i32, b: i32) -> bool
@@ -60,26 +51,6 @@ impl Frame {
 }
 
 impl Plan {
-    /// No layers, on a screen of a size.
-    pub fn new(screen: Size) -> Plan
-        ensures layers { λ r. ⌜ listed r ≡ [] ⌝ }
-        ensures screen { λ r. ⌜ r .screen ≡ screen ⌝ }
-    {
-        Plan {
-            screen,
-            count: 0,
-            order: [0; 8],
-            frames: [NOWHERE; 8],
-        }
-    }
-
-    /// The size of the screen.
-    pub fn screen(&self) -> Size
-        ensures { λ r. ⌜ r ≡ now (self .entry) .screen ⌝ }
-    {
-        self.screen
-    }
-
     /// Whether the client has an open layer.
     pub fn is_open(&self, c: u8) -> bool
         ensures { λ r. ⌜ r ≡ has c (listed (now (self .entry))) ⌝ }
@@ -108,7 +79,8 @@ impl Plan {
         ensures above { λ r. ⌜ outlines (drop r (listed (now (self .entry)))) (now (self .entry) .frames) ≡ above c (layers-in (now (self .entry))) ⌝ }
     {
         for i in 0..self.count {
-            if self.order[i as usize] == c {
+            let d = self.order[i as usize];
+            if d == c {
                 return i + 1;
             }
         }

@@ -8,3 +8,11 @@ pub struct Frame {
     pub w: u16,
     pub h: u16,
 }
+
+/// The frame of no layer.
+pub(crate) const NOWHERE: Frame = Frame {
+    x: 0,
+    y: 0,
+    w: 0,
+    h: 0,
+};

@@ -10,15 +10,15 @@ use Rattle.plan.specs.Plans.{listed, outlines, above}
 use Rattle.plan.proofs.Turns.{turn, turned}
 use Rattle.plan.proofs.plan.Plan.higher.Needs as need
 
-pub returns-then-self-i : need.returns-then-self-i
-returns-then-self-i c =
+pub returns-then-d-c : need.returns-then-d-c
+returns-then-d-c c =
     let p = c .args .self .now in
     let k : p .count ≤ length (p .order) = search needs in
     let rest = outlines (drop (c .loop-i .i + 1) (listed p)) (p .frames) in
     record {
       there = omega arith;
       above = sym (sym (c .loop-i .inv) ∙ turn (λ cs. above (c .args .c) (outlines cs (p .frames))) (p .count) (c .loop-i .i) (p .order) k (omega arith)
-          ∙ ap (λ b. cond b rest (above (c .args .c) rest)) (eq-eqb _ _ (c .if-self-i .taken)));
+          ∙ ap (λ b. cond b rest (above (c .args .c) rest)) (eq-eqb _ _ (c .if-d-c .taken)));
     }
 
 pub loop-i-again : need.loop-i-again
@@ -27,7 +27,7 @@ loop-i-again c =
     let k : p .count ≤ length (p .order) = search needs in
     let rest = outlines (drop (c .loop-i .i + 1) (listed p)) (p .frames) in
     sym (turn (λ cs. above (c .args .c) (outlines cs (p .frames))) (p .count) (c .loop-i .i) (p .order) k (omega arith)
-    ∙ ap (λ b. cond b rest (above (c .args .c) rest)) (ne-eqb _ _ (c .if-self-i .left))) ∙ c .loop-i .inv
+    ∙ ap (λ b. cond b rest (above (c .args .c) rest)) (ne-eqb _ _ (c .if-d-c .left))) ∙ c .loop-i .inv
 
 pub returns : need.returns
 returns c =
