@@ -1,10 +1,12 @@
 //! Tables of slots.
 ghost use mathlib.Core.Path.{_≡_};
-ghost use mathlib.Core.Bool.{false, cond, _&&_};
+ghost use mathlib.Core.Bool.{true, false, cond, _&&_};
 ghost use Prim.Native.Nat.{ℕ, _<_, _≤_, min};
 ghost use lib.Dec.{ltb};
+ghost use lib.ListN.{getD};
 ghost use Rattle.std.specs.declared.option.Option.the-variants.{Some, None};
 ghost use Rattle.plan.specs.Plans.{slot-of, has-slot};
+ghost use Rattle.plan.specs.Allots.{Retained, Taken};
 use crate::slots::Slots;
 
 impl Slots {
@@ -36,4 +38,50 @@ impl Slots {
         let slot = self.table[patch as usize];
         if slot < self.places { Some(slot) } else { None }
     }
+
+    /// The table in which the marked patches have the slots that they had, and the others none.
+    fn retained(&self, marks: &[bool; 2400]) -> Slots
+        ensures { λ r. ⌜ Retained (now (self .entry)) (λ k. getD (now (marks .entry)) k false) r ⌝ }
+    {
+        let mut table = self.table;
+        for k in 0..2400usize {
+            if !marks[k] {
+                table[k] = 65535;
+            }
+        }
+        Slots {
+            places: self.places,
+            table,
+        }
+    }
+
+    /// The slots that patches have.
+    fn taken(&self) -> [bool; 4096]
+        ensures { λ r. ⌜ Taken (now (self .entry)) r ⌝ }
+    {
+        let mut taken = [false; 4096];
+        for k in 0..2400usize {
+            let slot = self.table[k];
+            if slot < self.places {
+                taken[slot as usize] = true;
+            }
+        }
+        taken
+    }
+}
+
+/// The first slot from `start` on that is not taken.
+fn free_from(taken: &[bool; 4096], start: u16, places: u16) -> u16
+    requires { ⌜ places ≤ 4096 ⌝ ∗ ⌜ (((s : ℕ) → start ≤ s → s < places → getD (now taken) s false ≡ true) → ⊥) ⌝ }
+    ensures from { λ r. ⌜ start ≤ r ⌝ }
+    ensures there { λ r. ⌜ r < places ⌝ }
+    ensures free { λ r. ⌜ getD (now (taken .entry)) r false ≡ false ⌝ }
+    ensures passed { λ r. ⌜ ((s : ℕ) → start ≤ s → s < r → getD (now (taken .entry)) s false ≡ true) ⌝ }
+{
+    for s in start..places {
+        if !taken[s as usize] {
+            return s;
+        }
+    }
+    unreachable()
 }
