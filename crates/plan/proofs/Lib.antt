@@ -4,3 +4,4 @@ pub mod Orders
 pub mod Sifts
 pub mod Patches
 pub mod Counts
+pub mod Supplies
