@@ -7,3 +7,4 @@ pub mod Touched
 pub mod Areas
 pub mod Blanks
 pub mod Orders
+pub mod Outcomes

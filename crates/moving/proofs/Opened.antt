@@ -23,13 +23,13 @@ use Rattle.plan.specs.Frames.{has}
 use Rattle.plan.specs.Plans.{outline, listed, layers-in, frame-in, seen, patch-at, hidden-patch}
 use Rattle.hold.specs.Held.{Pixels, held, Holds}
 use Rattle.moving.specs.Phases.{on-screen, store-x, store-y, in-store, Stowed, Blanked}
-use Rattle.moving.specs.Moves.{desk-with, fresh, Stays, Allotted, Worked}
+use Rattle.moving.specs.Moves.{desk-with, fresh, Stays, Slotted, Worked}
 use Rattle.moving.proofs.Places.{listed-low, Real, real, real-patch, one-place, place-x, place-y, Shows, Seen-at, shown-by, seen-shows, shows-place, top-is}
 use Rattle.moving.proofs.Stows.{Small}
 use Rattle.moving.proofs.Rearranged.{unseen-hidden, held-seen, held-unseen, was-there, same-place, whole, worked, screen-shows}
 
 module _ (p q : Plan) (t t′ t″ : Slots) (c : ℕ) (px : Pixels) (s m m′ m″ s′ : Picture)
-    (small : Small s) (holds : Holds s m p t px) (slots : Allotted p q t t′ t″) (work : Worked p q (on-screen (p .screen) (frame-in q c)))
+    (small : Small s) (holds : Holds s m p t px) (slots : Slotted p q t t′ t″) (work : Worked p q (on-screen (p .screen) (frame-in q c)))
     (stowed : Stowed s p t′ (on-screen (p .screen) (frame-in q c)) m m′) (blanked : Blanked t′ c m′ m″)
     (zeros : s′ ≡ painted s (on-screen (p .screen) (frame-in q c)) (λ _ _. 0))
     (opens : has c (listed q) ≡ true)

@@ -32,7 +32,7 @@ use Rattle.hold.specs.Held.{Pixels, layers-with, held, Holds}
 use Rattle.moving.specs.declared.backing.Backing.{Backing}
 use Rattle.moving.specs.declared.backing.Backing.the-variants.{Bare, Alone, Kept}
 use Rattle.moving.specs.Phases.{store-x, store-y, in-store, kept-pixel, from-corner, backed, behind, Stowed, changes, taken, repainted}
-use Rattle.moving.specs.Moves.{desk-with, Stays, Allotted, Worked}
+use Rattle.moving.specs.Moves.{desk-with, Stays, Slotted, Worked}
 use Rattle.moving.proofs.Places.{same-client, Real, real, real-patch, place-x, place-y, Shows, Seen-at, shown-by, shows-behind, bare-behind, shows-seen, seen-shows, shows-place, top-shows, Keeps, behind-keeps, keeps-pixel}
 use Rattle.moving.proofs.Stows.{Small, repainted-sizes, repainted-at}
 use Rattle.moving.proofs.Dressed.{with-covered, with-shown}
@@ -145,7 +145,7 @@ desk-same s s′ m m′ q px es em = λ i. record { size = es i; slots = slots-o
 -- ── Stowing ──
 
 module _ (p q : Plan) (t t′ t″ : Slots) (at : ℕ → ℕ → Bool) (px : Pixels) (s m m′ : Picture)
-    (small : Small s) (holds : Holds s m p t px) (slots : Allotted p q t t′ t″) (work : Worked p q at) (stowed : Stowed s p t′ at m m′) where
+    (small : Small s) (holds : Holds s m p t px) (slots : Slotted p q t t′ t″) (work : Worked p q at) (stowed : Stowed s p t′ at m m′) where
 
   -- A pixel whose patch has a slot is in the store, if it was obscured or shows at a place worked on.
   pub whole : (d u v : ℕ) → has d (listed p) ≡ true → u < frame-in p d .w → v < frame-in p d .h → in-store t′ d u v ≡ true

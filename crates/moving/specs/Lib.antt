@@ -1,2 +1,3 @@
 pub mod Phases
 pub mod Moves
+pub mod Laws

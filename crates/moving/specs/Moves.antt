@@ -38,7 +38,7 @@ pub record Stays (p q : Plan) (t′ : Slots) (d : ℕ) : Type 0 where
 
 -- The slots on the way from arrangement p with the table t to arrangement q with the table t″: in t′ every patch has one that is
 -- hidden before or after, those of t are kept, and t″ keeps those of the patches hidden after.
-pub record Allotted (p q : Plan) (t t′ t″ : Slots) : Type 0 where
+pub record Slotted (p q : Plan) (t t′ t″ : Slots) : Type 0 where
   pub fits : Fits p t
   pub given : (k : ℕ) → k < 2400 → (hidden-patch p k || hidden-patch q k) ≡ true → has-slot t′ k ≡ true
   pub kept : (k : ℕ) → k < 2400 → has-slot t k ≡ true → slot-of t′ k ≡ slot-of t k
