@@ -8,10 +8,9 @@ use native.Mathlib.Omega.{arith}
 use lib.Dec.{eqb, ltb}
 use lib.IntN.{ℤ, pos, natAbs, _+ℤ_, _-ℤ_}
 use lib.Pow.{pow-mono}
-use lib.ListN.{getD}
 use Rattle.std.proofs.shelf.Signed.{ints}
 use Rattle.std.proofs.shelf.Ways.{tells}
-use Rattle.std.proofs.shelf.Tests.{both-ways, false≢true, true≢false, and-parts, and-from, and-left, or-left, or-right, not-true, not-from-false, eqb-true, eqb-false, eq-eqb, ltb-true, lt-ltb, cases-bool, cases-eq, cond-true, cond-false}
+use Rattle.std.proofs.shelf.Tests.{both-ways, false≢true, and-parts, and-from, or-left, or-right, not-true, not-from-false, eqb-true, eq-eqb, ltb-true, lt-ltb, cases-bool, cond-true}
 use Rattle.std.specs.declared.option.Option.{Option}
 use Rattle.std.specs.declared.option.Option.the-variants.{Some, None}
 use Rattle.std.specs.Options.{isSome}
@@ -19,16 +18,15 @@ use Rattle.raster.specs.Picture.{Picture, sizes, painted, with-pixel}
 use Rattle.raster.specs.Blt.{holds, inside}
 use Rattle.raster.specs.declared.size.Size.{Size}
 use Rattle.raster.proofs.Paints.{same-picture}
-use Rattle.paper.specs.Layers.{Layer, Desk, or-else, covers, covered, topmost, pixel-of, shown, screen-after, pixels-of, or-blank, pane, alter, with-pixels, with-layers}
-use Rattle.paper.specs.Slots.{visible, slots-of}
+use Rattle.paper.specs.Layers.{Layer, or-else, covers, covered, topmost, pixel-of, shown, screen-after, pixels-of, or-blank, pane, alter, with-pixels}
+use Rattle.paper.specs.Slots.{slots-of}
 use Rattle.paper.specs.Desk.{repaint}
-use Rattle.paper.proofs.Hidden.{covers-pixel}
 use Rattle.paper.proofs.Screen.{topmost-tells, none-topmost, screen-joins}
 use Rattle.paper.proofs.Pane.{repaint-own, repaint-again, repainted-pane}
 use Rattle.plan.specs.declared.frame.Frame.{Frame}
 use Rattle.plan.specs.declared.plan.Plan.{Plan}
 use Rattle.plan.specs.declared.slots.Slots.{Slots}
-use Rattle.plan.specs.Frames.{no-frame, has, distinct}
+use Rattle.plan.specs.Frames.{has, distinct}
 use Rattle.plan.specs.Plans.{outline, outlines, listed, layers-in, frame-in, above, seen}
 use Rattle.hold.specs.declared.spot.Spot.{Spot}
 use Rattle.hold.specs.declared.spot.Spot.the-variants.{Screen, Store}

@@ -1,6 +1,6 @@
 -- Where the pixels of open layers lie: inside the screen or in a slot of the store, each at a spot of its own.
 use mathlib.Core.Path.{_≡_, refl, sym, _∙_, ap, ap₂, subst}
-use mathlib.Core.Bool.{Bool, true, false, cond, not, _&&_, _||_}
+use mathlib.Core.Bool.{Bool, true, false, cond, not, _||_}
 use mathlib.Core.List.{List, [], _∷_}
 use mathlib.Core.Logic.{⊎-elim}
 use Prim.Native.Nat.{ℕ, zero, suc, _+_, _*_, _/_, _%_, _≤_, _<_}
@@ -11,19 +11,19 @@ use lib.IntN.{ℤ, pos, natAbs, _+ℤ_}
 use lib.ListN.{getD, take}
 use Rattle.std.proofs.shelf.Signed.{ints}
 use Rattle.std.proofs.shelf.Ways.{tells}
-use Rattle.std.proofs.shelf.Tests.{both-ways, false≢true, true≢false, and-parts, and-from, or-parts, or-left, or-right, not-true, not-from-false, eqb-true, ltb-true, ltb-false, lt-ltb, cases-bool, cases-eq, cond-true, cond-false}
+use Rattle.std.proofs.shelf.Tests.{both-ways, false≢true, and-parts, and-from, or-left, or-right, not-true, not-from-false, eqb-true, ltb-true, ltb-false, lt-ltb, cases-bool, cases-eq}
 use Rattle.raster.specs.Picture.{Picture, sizes}
 use Rattle.raster.specs.Blt.{holds, inside}
 use Rattle.raster.specs.Calls.{any-below}
 use Rattle.raster.specs.declared.size.Size.{Size}
 use Rattle.paper.specs.Layers.{Layer, covers, covered}
-use Rattle.paper.specs.Slots.{visible, obscured, hidden, hidden-in, slots-of}
+use Rattle.paper.specs.Slots.{obscured, hidden, hidden-in, slots-of}
 use Rattle.paper.proofs.Hidden.{covers-pixel, each-below}
 use Rattle.plan.specs.declared.frame.Frame.{Frame}
 use Rattle.plan.specs.declared.plan.Plan.{Plan}
 use Rattle.plan.specs.declared.slots.Slots.{Slots}
-use Rattle.plan.specs.Frames.{no-frame, has, distinct, Clash}
-use Rattle.plan.specs.Plans.{outline, outlines, listed, layers-in, frame-in, above, seen, patch-at, hidden-patch, slot-of, has-slot, Fits}
+use Rattle.plan.specs.Frames.{no-frame, has}
+use Rattle.plan.specs.Plans.{outline, outlines, listed, layers-in, frame-in, above, seen, patch-at, hidden-patch, Fits}
 use Rattle.hold.specs.declared.spot.Spot.{Spot}
 use Rattle.hold.specs.declared.spot.Spot.the-variants.{Screen, Store}
 use Rattle.hold.specs.Spots.{slot-x, slot-y, own-slot, screen-spot, store-spot, spot-of}
