@@ -3,3 +3,4 @@ pub mod Singles
 pub mod Finds
 pub mod Puts
 pub mod Papers
+pub mod Asks
