@@ -57,7 +57,18 @@ pub fn stamp<S: Bitmap, T: Bitmap, B: Bitmap>(
     for j in 0..rows.len {
         let y = rows.first.saturating_add(j);
         let from = rows.source.saturating_add(j);
-        stamp_row(screen, store, plan, slots, c, source, rule, columns, y, from);
+        stamp_row(
+            screen,
+            store,
+            plan,
+            slots,
+            c,
+            source,
+            rule,
+            columns,
+            y,
+            from,
+        );
     }
     rows.len as u32 * columns.len as u32
 }
