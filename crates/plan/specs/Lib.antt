@@ -1,3 +1,5 @@
 pub mod Frames
 pub mod Plans
 pub mod Areas
+pub mod Arranged
+pub mod Allots

@@ -3,6 +3,7 @@ ghost use mathlib.Core.Path.{_≡_};
 ghost use mathlib.Core.Bool.{true, cond, not, _&&_};
 ghost use mathlib.Core.List.{[]};
 ghost use Prim.Native.Nat.{ℕ, _<_, _≤_};
+ghost use lib.Dec.{ltb};
 ghost use lib.IntN.{pos, natAbs, _+ℤ_};
 ghost use lib.ListN.{drop};
 ghost use Rattle.std.specs.declared.option.Option.the-variants.{Some, None};
@@ -10,8 +11,8 @@ ghost use Rattle.raster.specs.Blt.{holds, inside};
 ghost use Rattle.paper.specs.Layers.{topmost, covered};
 ghost use Rattle.paper.specs.Desk.{client-if};
 ghost use Rattle.plan.specs.Frames.{has};
-ghost use Rattle.plan.specs.Plans.{listed, layers-in, frame-in, outlines, above, seen};
-ghost use Rattle.plan.specs.Areas.{reaches, meets, met};
+ghost use Rattle.plan.specs.Plans.{listed, layers-in, frame-in, outlines, above, seen, hidden-patch};
+ghost use Rattle.plan.specs.Areas.{reaches, meets, met, within, on-screen, hidden-area};
 use crate::frame::Frame;
 use crate::plan::Plan;
 use raster::Size;
@@ -40,6 +41,13 @@ fn on_axis(n: u16, z: i32) -> bool
     ensures small { λ r. ⌜ (r ≡ true → natAbs z < 65536) ⌝ }
 {
     0 <= z && z < n as i32
+}
+
+/// Whether the numbers from `a` up to `b` are all among the first `n`.
+fn within(a: i32, b: i32, n: u16) -> bool
+    ensures { λ r. ⌜ r ≡ within a b n ⌝ }
+{
+    0 <= a && b <= n as i32
 }
 
 impl Frame {
@@ -167,5 +175,42 @@ impl Plan {
             }
         }
         found
+    }
+
+    /// Whether an area lies on the screen as a whole.
+    fn holds(&self, left: i32, top: i32, right: i32, bottom: i32) -> bool
+        ensures { λ r. ⌜ r ≡ on-screen (now (self .entry) .screen) left top right bottom ⌝ }
+    {
+        within(left, right, self.screen.width) && within(top, bottom, self.screen.height)
+    }
+
+    /// Whether the patch at the pixel (u, v) of the client's layer has a pixel that is not visible.
+    fn hides_area(&self, c: u8, u: u16, v: u16) -> bool
+        requires { ⌜ u < 320 ⌝ ∗ ⌜ v < 240 ⌝ }
+        ensures { λ r. ⌜ r ≡ hidden-area (now (self .entry) .screen) (above c (layers-in (now (self .entry)))) (frame-in (now (self .entry)) c) u v ⌝ }
+    {
+        let frame = self.frame(c);
+        if u >= frame.w || v >= frame.h {
+            return false;
+        }
+        let left = frame.x as i32 + u as i32;
+        let top = frame.y as i32 + v as i32;
+        let right = frame.x as i32 + (u + 16).min(frame.w) as i32;
+        let bottom = frame.y as i32 + (v + 16).min(frame.h) as i32;
+        !self.holds(left, top, right, bottom) || self.meets_above(c, left, top, right, bottom)
+    }
+
+    /// Whether a patch is hidden.
+    pub fn hides(&self, patch: u16) -> bool
+        ensures { λ r. ⌜ r ≡ (ltb patch 2400 && hidden-patch (now (self .entry)) patch) ⌝ }
+    {
+        if patch >= 2400 {
+            return false;
+        }
+        let c = (patch / 300) as u8;
+        if !self.is_open(c) {
+            return false;
+        }
+        self.hides_area(c, 16 * (patch % 300 % 20), 16 * (patch % 300 / 20))
     }
 }

@@ -1,6 +1,8 @@
 //! Arrangements of layers and tables of slots, in plain numbers.
+mod arrange;
 mod ask;
 mod frame;
+mod marks;
 mod plan;
 mod slots;
 mod tables;

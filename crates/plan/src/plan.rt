@@ -2,7 +2,7 @@
 ghost use mathlib.Core.Path.{_≡_};
 ghost use mathlib.Core.Bool.{true};
 ghost use Prim.Native.Nat.{ℕ, _<_, _≤_};
-ghost use lib.ListN.{getD, take};
+ghost use lib.ListN.{length, getD, take};
 ghost use Rattle.plan.specs.Frames.{no-frame, distinct};
 use crate::frame::Frame;
 use raster::Size;
@@ -14,6 +14,7 @@ pub struct Plan {
     pub(crate) count: u8,
     pub(crate) order: [u8; 8],
     pub(crate) frames: [Frame; 8],
+    ghost long: { length frames ≡ 8 },
     ghost few: { count ≤ 8 },
     ghost low: { (k : ℕ) → getD order k 0 < 8 },
     ghost once: { distinct (take count order) ≡ true },
