@@ -1,5 +1,5 @@
 -- What the desk on paper answers of the layers that screen and store hold: by the arrangement alone.
-use mathlib.Core.Path.{_≡_, refl, sym, _∙_, ap, ap₂, fun-ext}
+use mathlib.Core.Path.{_≡_, refl, sym, _∙_, ap, ap₂}
 use mathlib.Core.Bool.{Bool, true, false, cond, _||_}
 use mathlib.Core.List.{List, [], _∷_}
 use Prim.Native.Nat.{ℕ, _+_}
@@ -8,12 +8,12 @@ use lib.IntN.{ℤ}
 use Rattle.std.specs.Options.{isSome}
 use Rattle.std.specs.declared.option.Option.{Option}
 use Rattle.std.specs.declared.option.Option.the-variants.{Some, None}
-use Rattle.raster.specs.Picture.{Picture, sizes}
+use Rattle.raster.specs.Picture.{Picture}
 use Rattle.raster.specs.Rules.{total}
 use Rattle.raster.specs.declared.size.Size.{Size}
 use Rattle.paper.specs.Layers.{Layer, Desk, or-else, covers, topmost, pixels-of, is-open, or-blank}
 use Rattle.paper.specs.Slots.{hidden-in, patches-along, count-patches, hidden-count, slots-needed}
-use Rattle.paper.specs.Desk.{client-if, repaint}
+use Rattle.paper.specs.Desk.{client-if}
 use Rattle.paper.specs.Run.{Alike, none, more}
 use Rattle.paper.proofs.Layers.{paint-other}
 use Rattle.paper.proofs.Outline.{Same-outline, covers-same, hidden-in-same, hidden-count-same}
