@@ -14,7 +14,8 @@ use Rattle.plan.specs.declared.slots.Slots.{Slots}
 use Rattle.plan.specs.Frames.{has}
 use Rattle.plan.specs.Plans.{listed}
 use Rattle.hold.specs.Held.{layer-held, Fitting, Own-pixel, Drawn}
-use Rattle.hold.proofs.Papers.{layer-size, drawn-none, drawn-joins, drawn-pane, drawn-fits}
+use Rattle.hold.proofs.Papers.{layer-size}
+use Rattle.hold.proofs.Drawings.{drawn-none, drawn-joins, drawn-pane, drawn-fits}
 use Rattle.draw.specs.Touches.{touched}
 use Rattle.draw.specs.Stamps.{stamped-row, stamped-rows, Row-inside, Stamps}
 use Rattle.draw.proofs.Strokes.{drawn-as}

@@ -15,7 +15,8 @@ use Rattle.plan.specs.declared.slots.Slots.{Slots}
 use Rattle.plan.specs.Frames.{has}
 use Rattle.plan.specs.Plans.{listed}
 use Rattle.hold.specs.Held.{held, layer-held, Fitting, Own-pixel, Drawn, Pixel-put}
-use Rattle.hold.proofs.Papers.{layer-size, layer-at, drawn-none, drawn-joins, drawn-pane, drawn-fits}
+use Rattle.hold.proofs.Papers.{layer-size, layer-at}
+use Rattle.hold.proofs.Drawings.{drawn-none, drawn-joins, drawn-pane, drawn-fits}
 use Rattle.draw.specs.Touches.{touched}
 use Rattle.draw.specs.Areas.{Blit-within, Row-within}
 
