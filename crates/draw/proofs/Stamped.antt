@@ -1,14 +1,14 @@
 -- A stamp, pixel by pixel, and that it is the clipped BitBlt.
 use mathlib.Core.Path.{_≡_, refl, sym, _∙_, ap, ap₂}
-use mathlib.Core.Bool.{Bool, true, false, cond, _&&_, _||_}
-use Prim.Native.Nat.{ℕ, _+_, _-_, _*_, _≤_, _<_}
+use mathlib.Core.Bool.{Bool, true, false, _&&_, _||_}
+use Prim.Native.Nat.{ℕ, _+_, _-_, _*_}
 use native.Mathlib.Omega.{arith}
-use lib.Dec.{eqb, ltb, leb}
-use lib.IntN.{ℤ, pos, natAbs}
+use lib.Dec.{eqb}
+use lib.IntN.{pos, natAbs}
 use Rattle.std.proofs.shelf.Ways.{tells}
 use Rattle.std.proofs.shelf.Tests.{and-parts, and-left, and-right, eqb-true, cond-false}
 use Rattle.raster.specs.Rules.{combined}
-use Rattle.raster.specs.Picture.{Picture, sizes, painted, with-pixel}
+use Rattle.raster.specs.Picture.{Picture, sizes, painted}
 use Rattle.raster.specs.Blt.{Transfer, holds, behind, concerned, from-picture, count, blt}
 use Rattle.raster.specs.Blits.{between, spans, opposite}
 use Rattle.raster.specs.Clip.{hits, Clipped}
@@ -16,8 +16,7 @@ use Rattle.raster.specs.declared.ink.Ink.the-variants.{Value}
 use Rattle.raster.specs.declared.rule.Rule.{Rule}
 use Rattle.raster.specs.declared.size.Size.{Size}
 use Rattle.raster.specs.declared.span.Span.{Span}
-use Rattle.raster.specs.declared.blit.Blit.{Blit}
-use Rattle.raster.proofs.Paints.{same-picture, painted-at, painted-sizes, painted-same, painted-none, painted-more}
+use Rattle.raster.proofs.Paints.{painted-at, painted-sizes, painted-same, painted-none, painted-more}
 use Rattle.raster.proofs.Counts.{clipped-count}
 use Rattle.draw.specs.Touches.{touched}
 use Rattle.draw.specs.Stamps.{stamped-value, stamped-row, stamped-rows}

@@ -1,7 +1,7 @@
 -- A stamp on a layer: one more turn of it on the layer's picture, and what all turns leave.
-use mathlib.Core.Path.{_≡_, refl, sym, _∙_, ap, ap₂, subst}
+use mathlib.Core.Path.{_≡_, sym, _∙_, ap, ap₂, subst}
 use mathlib.Core.Bool.{true}
-use Prim.Native.Nat.{ℕ, _+_, _*_, min, _≤_, _<_}
+use Prim.Native.Nat.{ℕ, _+_, _*_, min, _<_}
 use native.Mathlib.Omega.{arith}
 use Rattle.raster.specs.Picture.{Picture, sizes, Sound}
 use Rattle.raster.specs.Blt.{Transfer, from-picture, count, blt}
@@ -14,7 +14,8 @@ use Rattle.plan.specs.declared.slots.Slots.{Slots}
 use Rattle.plan.specs.Frames.{has}
 use Rattle.plan.specs.Plans.{listed}
 use Rattle.hold.specs.Held.{layer-held, Fitting, Own-pixel, Drawn}
-use Rattle.hold.proofs.Papers.{layer-size, drawn-none, drawn-joins, drawn-pane, drawn-fits}
+use Rattle.hold.proofs.Papers.{layer-size}
+use Rattle.hold.proofs.Drawings.{drawn-none, drawn-joins, drawn-pane, drawn-fits}
 use Rattle.draw.specs.Touches.{touched}
 use Rattle.draw.specs.Stamps.{stamped-row, stamped-rows, Row-inside, Stamps}
 use Rattle.draw.proofs.Strokes.{drawn-as}
@@ -32,7 +33,7 @@ module _ (p : Plan) (t : Slots) (c : ℕ) (opened : has c (listed p) ≡ true) (
       → from ≡ min (cols .source + i) 65535 → x ≡ min (cols .first + i) 65535
       → Drawn p t s0 t0 s1 t1 c (stamped-row rule source cols i y sy (layer s0 t0))
       → s ≡ source .at from sy
-      → (Fitting s1 t1 p t → Own-pixel p c x y → Drawn p t s1 t1 s2 t2 c (touched rule s x y (layer s1 t1)))
+      → (Own-pixel p c x y → Fitting s1 t1 p t → Drawn p t s1 t1 s2 t2 c (touched rule s x y (layer s1 t1)))
       → Drawn p t s0 t0 s2 t2 c (stamped-row rule source cols (i + 1) y sy (layer s0 t0))
   row-goes-on y sy s1 t1 s2 t2 i from x s f w h ef ex d es touch =
       let across = w .across in
@@ -40,7 +41,7 @@ module _ (p : Plan) (t : Slots) (c : ℕ) (opened : has c (listed p) ≡ true) (
       let narrow = p .narrow c in
       let ef′ : from ≡ cols .source + i = omega arith in
       let ex′ : x ≡ cols .first + i = omega arith in
-      let e = touch (drawn-fits p t c opened s0 t0 s1 t1 _ d f) (record { opened = opened; across = omega arith; down = w .down }) in
+      let e = touch (record { opened = opened; across = omega arith; down = w .down }) (drawn-fits p t c opened s0 t0 s1 t1 _ d f) in
       drawn-as p t s0 t0 s2 t2 c _ _
       (ap₂ (λ m n. touched rule m n y (layer s1 t1)) (es ∙ ap (λ n. source .at n sy) ef′) ex′
       ∙ row-more rule source cols i y sy (layer s0 t0) (layer s1 t1) (drawn-pane p t c opened s0 t0 s1 t1 _ d))
@@ -54,7 +55,7 @@ module _ (p : Plan) (t : Slots) (c : ℕ) (opened : has c (listed p) ≡ true) (
     pub rows-go-on : (tr : Transfer) (r : Rule) (s1 t1 s2 t2 : Picture) (j from y : ℕ) → Fitting s0 t0 p t → Sound source → Stamps p c tr (sizes source) r cols rows → j < rows .len
         → y ≡ min (rows .first + j) 65535 → from ≡ min (rows .source + j) 65535
         → Drawn p t s0 t0 s1 t1 c (stamped-rows rule source cols rows j (layer s0 t0))
-        → (Fitting s1 t1 p t → Row-inside p c cols y → Drawn p t s1 t1 s2 t2 c (stamped-row rule source cols (cols .len) y from (layer s1 t1)))
+        → (Row-inside p c cols y → Fitting s1 t1 p t → Drawn p t s1 t1 s2 t2 c (stamped-row rule source cols (cols .len) y from (layer s1 t1)))
         → Drawn p t s0 t0 s2 t2 c (stamped-rows rule source cols rows (j + 1) (layer s0 t0))
     rows-go-on tr r s1 t1 s2 t2 j from y f sound w h ey ef d row =
         let across = w .across in
@@ -66,7 +67,7 @@ module _ (p : Plan) (t : Slots) (c : ℕ) (opened : has c (listed p) ≡ true) (
         let short = p .short c in
         let ef′ : from ≡ rows .source + j = omega arith in
         let ey′ : y ≡ rows .first + j = omega arith in
-        let e = row (drawn-fits p t c opened s0 t0 s1 t1 _ d f) (record { opened = opened; across = across .paints; reads = omega (arith, across .reads); down = omega arith }) in
+        let e = row (record { opened = opened; across = across .paints; reads = omega (arith, across .reads); down = omega arith }) (drawn-fits p t c opened s0 t0 s1 t1 _ d f) in
         drawn-as p t s0 t0 s2 t2 c _ _
         (ap₂ (λ m n. stamped-row rule source cols (cols .len) m n (layer s1 t1)) ey′ ef′
         ∙ rows-more rule source cols rows j (layer s0 t0) (layer s1 t1) (drawn-pane p t c opened s0 t0 s1 t1 _ d))

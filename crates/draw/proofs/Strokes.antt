@@ -1,5 +1,5 @@
 -- Drawing on a layer, pixel by pixel: one more turn of a blit on the layer's picture.
-use mathlib.Core.Path.{_≡_, refl, sym, _∙_, ap, ap₂, subst}
+use mathlib.Core.Path.{_≡_, sym, _∙_, ap, ap₂, subst}
 use mathlib.Core.Bool.{true}
 use Prim.Native.Nat.{ℕ, _+_, _^_, min, _<_}
 use native.Mathlib.Omega.{arith}
@@ -15,7 +15,8 @@ use Rattle.plan.specs.declared.slots.Slots.{Slots}
 use Rattle.plan.specs.Frames.{has}
 use Rattle.plan.specs.Plans.{listed}
 use Rattle.hold.specs.Held.{held, layer-held, Fitting, Own-pixel, Drawn, Pixel-put}
-use Rattle.hold.proofs.Papers.{layer-size, layer-at, drawn-none, drawn-joins, drawn-pane, drawn-fits}
+use Rattle.hold.proofs.Papers.{layer-size, layer-at}
+use Rattle.hold.proofs.Drawings.{drawn-none, drawn-joins, drawn-pane, drawn-fits}
 use Rattle.draw.specs.Touches.{touched}
 use Rattle.draw.specs.Areas.{Blit-within, Row-within}
 
@@ -51,7 +52,7 @@ module _ (p : Plan) (t : Slots) (c : ℕ) (opened : has c (listed p) ≡ true) (
         → from ≡ min (b .columns .source + k) 65535 → x ≡ min (b .columns .first + k) 65535
         → Drawn p t s0 t0 s1 t1 c (row-so-far b y sy i (layer s0 t0))
         → (Fitting s1 t1 p t → Own-pixel p c from sy → s ≡ inked (b .ink) (layer s1 t1) from sy)
-        → (Fitting s1 t1 p t → Own-pixel p c x y → Drawn p t s1 t1 s2 t2 c (touched (b .rule .number) s x y (layer s1 t1)))
+        → (Own-pixel p c x y → Fitting s1 t1 p t → Drawn p t s1 t1 s2 t2 c (touched (b .rule .number) s x y (layer s1 t1)))
         → Drawn p t s0 t0 s2 t2 c (row-so-far b y sy (i + 1) (layer s0 t0))
     row-goes-on y sy s1 t1 s2 t2 i k from x s f w h ek ef ex d sampled touch =
         let below : k < b .columns .len = subst (λ n. n < b .columns .len) (sym ek) (turn-below (b .columns) i h) in
@@ -61,7 +62,7 @@ module _ (p : Plan) (t : Slots) (c : ℕ) (opened : has c (listed p) ≡ true) (
         let ex′ : x ≡ b .columns .first + k = omega arith in
         let f1 = drawn-fits p t c opened s0 t0 s1 t1 _ d f in
         let es = sampled f1 (record { opened = w .opened; across = omega arith; down = w .read }) in
-        let e = touch f1 (record { opened = w .opened; across = omega arith; down = w .painted }) in
+        let e = touch (record { opened = w .opened; across = omega arith; down = w .painted }) f1 in
         drawn-as p t s0 t0 s2 t2 c _ _
         (row-more b y sy (layer s0 t0) (layer s1 t1) _ i k s h ek (drawn-pane p t c opened s0 t0 s1 t1 _ d)
         (es ∙ ap (λ n. inked (b .ink) (layer s1 t1) n sy) ef′) (ap (λ n. touched (b .rule .number) s n y (layer s1 t1)) ex′))
@@ -77,7 +78,7 @@ module _ (p : Plan) (t : Slots) (c : ℕ) (opened : has c (listed p) ≡ true) (
     pub rows-go-on : (s1 t1 s2 t2 : Picture) (j k from y : ℕ) → Fitting s0 t0 p t → Blit-within p c b → j < b .rows .len → k ≡ turn (b .rows) j
         → y ≡ min (b .rows .first + k) 65535 → from ≡ min (b .rows .source + k) 65535
         → Drawn p t s0 t0 s1 t1 c (rows-so-far b j (layer s0 t0))
-        → (Fitting s1 t1 p t → Row-within p c (b .columns) y from → Drawn p t s1 t1 s2 t2 c (row-painted b y from (layer s1 t1)))
+        → (Row-within p c (b .columns) y from → Fitting s1 t1 p t → Drawn p t s1 t1 s2 t2 c (row-painted b y from (layer s1 t1)))
         → Drawn p t s0 t0 s2 t2 c (rows-so-far b (j + 1) (layer s0 t0))
     rows-go-on s1 t1 s2 t2 j k from y f w h ek ey ef d row =
         let below : k < b .rows .len = subst (λ n. n < b .rows .len) (sym ek) (turn-below (b .rows) j h) in
@@ -85,7 +86,7 @@ module _ (p : Plan) (t : Slots) (c : ℕ) (opened : has c (listed p) ≡ true) (
         let short = p .short c in
         let ef′ : from ≡ b .rows .source + k = omega arith in
         let ey′ : y ≡ b .rows .first + k = omega arith in
-        let e = row (drawn-fits p t c opened s0 t0 s1 t1 _ d f) (record { opened = w .opened; across = w .columns; painted = omega arith; read = omega arith }) in
+        let e = row (record { opened = w .opened; across = w .columns; painted = omega arith; read = omega arith }) (drawn-fits p t c opened s0 t0 s1 t1 _ d f) in
         drawn-as p t s0 t0 s2 t2 c _ _
         (rows-more b (layer s0 t0) (layer s1 t1) _ j k h ek (drawn-pane p t c opened s0 t0 s1 t1 _ d) (ap₂ (λ m n. row-painted b m n (layer s1 t1)) ey′ ef′))
         (drawn-joins p t c opened s0 t0 s1 t1 s2 t2 _ _ d e)

@@ -2,7 +2,8 @@
 ghost use mathlib.Core.Path.{_≡_};
 ghost use Rattle.raster.specs.Blits.{inked, performed};
 ghost use Rattle.raster.proofs.Paints.{row-painted};
-ghost use Rattle.hold.specs.Held.{layer-held, Fitting, Own-pixel, Drawn};
+ghost use Rattle.hold.specs.Held.{Own-pixel};
+ghost use Rattle.hold.specs.Bitmaps.{Suits, layer-on, Draws};
 ghost use Rattle.draw.specs.Areas.{Blit-within, Row-within};
 use crate::touch::touch;
 use hold::read_pixel;
@@ -23,7 +24,7 @@ fn sample<S: Bitmap, T: Bitmap>(
     x: u16,
     y: u16,
 ) -> u8
-    ensures { λ r. ⌜ (Fitting (S·Bitmap .picture (now (screen .entry))) (T·Bitmap .picture (now (store .entry))) (now (plan .entry)) (now (slots .entry)) → Own-pixel (now (plan .entry)) c x y → r ≡ inked ink (layer-held (S·Bitmap .picture (now (screen .entry))) (T·Bitmap .picture (now (store .entry))) (now (plan .entry)) (now (slots .entry)) c) x y) ⌝ }
+    ensures { λ r. ⌜ (Suits S·Bitmap T·Bitmap (now (plan .entry)) (now (slots .entry)) (now (screen .entry)) (now (store .entry)) → Own-pixel (now (plan .entry)) c x y → r ≡ inked ink (layer-on S·Bitmap T·Bitmap (now (plan .entry)) (now (slots .entry)) (now (screen .entry)) (now (store .entry)) c) x y) ⌝ }
 {
     match ink {
         Ink::Value(v) => v,
@@ -42,7 +43,7 @@ fn paint_row<S: Bitmap, T: Bitmap>(
     y: u16,
     sy: u16,
 )
-    ensures drawn { λ _. ⌜ (Fitting (S·Bitmap .picture (now (screen .entry))) (T·Bitmap .picture (now (store .entry))) (now (plan .entry)) (now (slots .entry)) → Row-within (now (plan .entry)) c (blit .columns) y sy → Drawn (now (plan .entry)) (now (slots .entry)) (S·Bitmap .picture (now (screen .entry))) (T·Bitmap .picture (now (store .entry))) (S·Bitmap .picture (now (screen .exit))) (T·Bitmap .picture (now (store .exit))) c (row-painted blit y sy (layer-held (S·Bitmap .picture (now (screen .entry))) (T·Bitmap .picture (now (store .entry))) (now (plan .entry)) (now (slots .entry)) c))) ⌝ }
+    ensures drawn { λ _. ⌜ (Row-within (now (plan .entry)) c (blit .columns) y sy → Draws S·Bitmap T·Bitmap (now (plan .entry)) (now (slots .entry)) (now (screen .entry)) (now (store .entry)) (now (screen .exit)) (now (store .exit)) c (row-painted blit y sy)) ⌝ }
     ensures screen { λ _. ⌜ S·Bitmap .keeps (now (screen .entry)) (now (screen .exit)) ⌝ }
     ensures store { λ _. ⌜ T·Bitmap .keeps (now (store .entry)) (now (store .exit)) ⌝ }
 {
@@ -64,7 +65,7 @@ pub fn paint<S: Bitmap, T: Bitmap>(
     c: u8,
     blit: Blit,
 )
-    ensures drawn { λ _. ⌜ (Fitting (S·Bitmap .picture (now (screen .entry))) (T·Bitmap .picture (now (store .entry))) (now (plan .entry)) (now (slots .entry)) → Blit-within (now (plan .entry)) c blit → Drawn (now (plan .entry)) (now (slots .entry)) (S·Bitmap .picture (now (screen .entry))) (T·Bitmap .picture (now (store .entry))) (S·Bitmap .picture (now (screen .exit))) (T·Bitmap .picture (now (store .exit))) c (performed blit (layer-held (S·Bitmap .picture (now (screen .entry))) (T·Bitmap .picture (now (store .entry))) (now (plan .entry)) (now (slots .entry)) c))) ⌝ }
+    ensures drawn { λ _. ⌜ (Blit-within (now (plan .entry)) c blit → Draws S·Bitmap T·Bitmap (now (plan .entry)) (now (slots .entry)) (now (screen .entry)) (now (store .entry)) (now (screen .exit)) (now (store .exit)) c (performed blit)) ⌝ }
     ensures screen { λ _. ⌜ S·Bitmap .keeps (now (screen .entry)) (now (screen .exit)) ⌝ }
     ensures store { λ _. ⌜ T·Bitmap .keeps (now (store .entry)) (now (store .exit)) ⌝ }
 {

@@ -2,7 +2,7 @@
 ghost use mathlib.Core.Path.{_≡_};
 ghost use Rattle.raster.specs.Picture.{sizes};
 ghost use Rattle.raster.specs.Blt.{Transfer, from-picture, count, blt};
-ghost use Rattle.hold.specs.Held.{layer-held, Fitting, Drawn};
+ghost use Rattle.hold.specs.Bitmaps.{layer-on, Draws};
 ghost use Rattle.draw.specs.Stamps.{stamped-row, Row-inside, Stamps};
 use crate::touch::touch;
 use hold::pixel;
@@ -25,7 +25,7 @@ fn stamp_row<S: Bitmap, T: Bitmap, B: Bitmap>(
     y: u16,
     sy: u16,
 )
-    ensures drawn { λ _. ⌜ (Fitting (S·Bitmap .picture (now (screen .entry))) (T·Bitmap .picture (now (store .entry))) (now (plan .entry)) (now (slots .entry)) → Row-inside (now (plan .entry)) c columns y → Drawn (now (plan .entry)) (now (slots .entry)) (S·Bitmap .picture (now (screen .entry))) (T·Bitmap .picture (now (store .entry))) (S·Bitmap .picture (now (screen .exit))) (T·Bitmap .picture (now (store .exit))) c (stamped-row (rule .number) (B·Bitmap .picture (now (source .entry))) columns (columns .len) y sy (layer-held (S·Bitmap .picture (now (screen .entry))) (T·Bitmap .picture (now (store .entry))) (now (plan .entry)) (now (slots .entry)) c))) ⌝ }
+    ensures drawn { λ _. ⌜ (Row-inside (now (plan .entry)) c columns y → Draws S·Bitmap T·Bitmap (now (plan .entry)) (now (slots .entry)) (now (screen .entry)) (now (store .entry)) (now (screen .exit)) (now (store .exit)) c (stamped-row (rule .number) (B·Bitmap .picture (now (source .entry))) columns (columns .len) y sy)) ⌝ }
     ensures screen { λ _. ⌜ S·Bitmap .keeps (now (screen .entry)) (now (screen .exit)) ⌝ }
     ensures store { λ _. ⌜ T·Bitmap .keeps (now (store .entry)) (now (store .exit)) ⌝ }
 {
@@ -49,15 +49,26 @@ pub fn stamp<S: Bitmap, T: Bitmap, B: Bitmap>(
     columns: Span,
     rows: Span,
 ) -> u32
-    ensures drawn { λ _. ⌜ ((t : Transfer) → Fitting (S·Bitmap .picture (now (screen .entry))) (T·Bitmap .picture (now (store .entry))) (now (plan .entry)) (now (slots .entry)) → Stamps (now (plan .entry)) c t (sizes (B·Bitmap .picture (now (source .entry)))) rule columns rows → Drawn (now (plan .entry)) (now (slots .entry)) (S·Bitmap .picture (now (screen .entry))) (T·Bitmap .picture (now (store .entry))) (S·Bitmap .picture (now (screen .exit))) (T·Bitmap .picture (now (store .exit))) c (blt t (from-picture (B·Bitmap .picture (now (source .entry)))) (layer-held (S·Bitmap .picture (now (screen .entry))) (T·Bitmap .picture (now (store .entry))) (now (plan .entry)) (now (slots .entry)) c))) ⌝ }
-    ensures count { λ r. ⌜ ((t : Transfer) → Stamps (now (plan .entry)) c t (sizes (B·Bitmap .picture (now (source .entry)))) rule columns rows → r ≡ count t (from-picture (B·Bitmap .picture (now (source .entry)))) (sizes (layer-held (S·Bitmap .picture (now (screen .entry))) (T·Bitmap .picture (now (store .entry))) (now (plan .entry)) (now (slots .entry)) c))) ⌝ }
+    ensures drawn { λ _. ⌜ ((t : Transfer) → Stamps (now (plan .entry)) c t (sizes (B·Bitmap .picture (now (source .entry)))) rule columns rows → Draws S·Bitmap T·Bitmap (now (plan .entry)) (now (slots .entry)) (now (screen .entry)) (now (store .entry)) (now (screen .exit)) (now (store .exit)) c (blt t (from-picture (B·Bitmap .picture (now (source .entry)))))) ⌝ }
+    ensures count { λ r. ⌜ ((t : Transfer) → Stamps (now (plan .entry)) c t (sizes (B·Bitmap .picture (now (source .entry)))) rule columns rows → r ≡ count t (from-picture (B·Bitmap .picture (now (source .entry)))) (sizes (layer-on S·Bitmap T·Bitmap (now (plan .entry)) (now (slots .entry)) (now (screen .entry)) (now (store .entry)) c))) ⌝ }
     ensures screen { λ _. ⌜ S·Bitmap .keeps (now (screen .entry)) (now (screen .exit)) ⌝ }
     ensures store { λ _. ⌜ T·Bitmap .keeps (now (store .entry)) (now (store .exit)) ⌝ }
 {
     for j in 0..rows.len {
         let y = rows.first.saturating_add(j);
         let from = rows.source.saturating_add(j);
-        stamp_row(screen, store, plan, slots, c, source, rule, columns, y, from);
+        stamp_row(
+            screen,
+            store,
+            plan,
+            slots,
+            c,
+            source,
+            rule,
+            columns,
+            y,
+            from,
+        );
     }
     rows.len as u32 * columns.len as u32
 }

@@ -1,6 +1,7 @@
 //! Single pixels of layers, combined with a source pixel.
 ghost use mathlib.Core.Path.{_≡_};
-ghost use Rattle.hold.specs.Held.{layer-held, Fitting, Own-pixel, Drawn};
+ghost use Rattle.hold.specs.Held.{Own-pixel};
+ghost use Rattle.hold.specs.Bitmaps.{Draws};
 ghost use Rattle.draw.specs.Touches.{touched};
 use hold::put_pixel;
 use hold::read_pixel;
@@ -21,7 +22,7 @@ pub(crate) fn touch<S: Bitmap, T: Bitmap>(
     x: u16,
     y: u16,
 )
-    ensures drawn { λ _. ⌜ (Fitting (S·Bitmap .picture (now (screen .entry))) (T·Bitmap .picture (now (store .entry))) (now (plan .entry)) (now (slots .entry)) → Own-pixel (now (plan .entry)) c x y → Drawn (now (plan .entry)) (now (slots .entry)) (S·Bitmap .picture (now (screen .entry))) (T·Bitmap .picture (now (store .entry))) (S·Bitmap .picture (now (screen .exit))) (T·Bitmap .picture (now (store .exit))) c (touched (rule .number) s x y (layer-held (S·Bitmap .picture (now (screen .entry))) (T·Bitmap .picture (now (store .entry))) (now (plan .entry)) (now (slots .entry)) c))) ⌝ }
+    ensures drawn { λ _. ⌜ (Own-pixel (now (plan .entry)) c x y → Draws S·Bitmap T·Bitmap (now (plan .entry)) (now (slots .entry)) (now (screen .entry)) (now (store .entry)) (now (screen .exit)) (now (store .exit)) c (touched (rule .number) s x y)) ⌝ }
     ensures screen { λ _. ⌜ S·Bitmap .keeps (now (screen .entry)) (now (screen .exit)) ⌝ }
     ensures store { λ _. ⌜ T·Bitmap .keeps (now (store .entry)) (now (store .exit)) ⌝ }
 {

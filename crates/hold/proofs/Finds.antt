@@ -1,21 +1,19 @@
 -- A pixel's spot, from what an arrangement and a table answer.
 use mathlib.Core.Path.{_≡_, refl, sym, _∙_, ap, ap₂, subst}
 use mathlib.Core.Bool.{Bool, true, false, cond, _&&_}
-use Prim.Native.Nat.{ℕ, zero, suc, _+_, _*_, _/_, _%_, min, _≤_, _<_}
+use Prim.Native.Nat.{ℕ, _+_, _*_, _/_, min, _≤_, _<_}
 use native.Mathlib.Omega.{arith}
 use lib.Dec.{ltb}
 use lib.IntN.{pos, natAbs, _+ℤ_}
 use Rattle.std.proofs.shelf.Tests.{and-from, lt-ltb, cond-true, cond-false}
 use Rattle.std.specs.declared.option.Option.{Option}
 use Rattle.std.specs.declared.option.Option.the-variants.{Some, None}
-use Rattle.raster.specs.Picture.{Picture, sizes}
-use Rattle.raster.specs.declared.size.Size.{Size}
-use Rattle.paper.specs.Slots.{slots-of}
+use Rattle.raster.specs.Picture.{Picture}
 use Rattle.plan.specs.declared.plan.Plan.{Plan}
 use Rattle.plan.specs.declared.slots.Slots.{Slots}
 use Rattle.plan.specs.Plans.{frame-in, seen, patch-at, slot-of, has-slot}
 use Rattle.hold.specs.declared.spot.Spot.{Spot}
-use Rattle.hold.specs.declared.spot.Spot.the-variants.{Screen, Store}
+use Rattle.hold.specs.declared.spot.Spot.the-variants.{Screen}
 use Rattle.hold.specs.Spots.{own-slot, screen-spot, store-spot, spot-of}
 use Rattle.hold.specs.Held.{Fitting, Own-pixel}
 use Rattle.hold.proofs.Places.{own-patch, slot-there, some-across}

@@ -1,6 +1,6 @@
 -- Where the pixels of open layers lie: inside the screen or in a slot of the store, each at a spot of its own.
 use mathlib.Core.Path.{_≡_, refl, sym, _∙_, ap, ap₂, subst}
-use mathlib.Core.Bool.{Bool, true, false, cond, not, _&&_, _||_}
+use mathlib.Core.Bool.{Bool, true, false, cond, not, _||_}
 use mathlib.Core.List.{List, [], _∷_}
 use mathlib.Core.Logic.{⊎-elim}
 use Prim.Native.Nat.{ℕ, zero, suc, _+_, _*_, _/_, _%_, _≤_, _<_}
@@ -8,41 +8,28 @@ use native.Mathlib.Nat.{zero-mul, mul-comm, mod-lt, div-add-mod, div-lt-iff-lt-m
 use native.Mathlib.Omega.{arith}
 use lib.Dec.{eqb, ltb}
 use lib.IntN.{ℤ, pos, natAbs, _+ℤ_}
-use lib.ListN.{getD, take}
+use lib.ListN.{getD}
 use Rattle.std.proofs.shelf.Signed.{ints}
 use Rattle.std.proofs.shelf.Ways.{tells}
-use Rattle.std.proofs.shelf.Tests.{both-ways, false≢true, true≢false, and-parts, and-from, or-parts, or-left, or-right, not-true, not-from-false, eqb-true, ltb-true, ltb-false, lt-ltb, cases-bool, cases-eq, cond-true, cond-false}
+use Rattle.std.proofs.shelf.Tests.{both-ways, false≢true, and-parts, and-from, or-left, or-right, not-true, not-from-false, eqb-true, ltb-true, ltb-false, lt-ltb, cases-eq}
 use Rattle.raster.specs.Picture.{Picture, sizes}
 use Rattle.raster.specs.Blt.{holds, inside}
 use Rattle.raster.specs.Calls.{any-below}
 use Rattle.raster.specs.declared.size.Size.{Size}
 use Rattle.paper.specs.Layers.{Layer, covers, covered}
-use Rattle.paper.specs.Slots.{visible, obscured, hidden, hidden-in, slots-of}
-use Rattle.paper.proofs.Hidden.{covers-pixel, each-below}
+use Rattle.paper.specs.Slots.{obscured, hidden, hidden-in, slots-of}
+use Rattle.paper.proofs.Hidden.{covers-pixel}
 use Rattle.plan.specs.declared.frame.Frame.{Frame}
 use Rattle.plan.specs.declared.plan.Plan.{Plan}
 use Rattle.plan.specs.declared.slots.Slots.{Slots}
-use Rattle.plan.specs.Frames.{no-frame, has, distinct, Clash}
-use Rattle.plan.specs.Plans.{outline, outlines, listed, layers-in, frame-in, above, seen, patch-at, hidden-patch, slot-of, has-slot, Fits}
+use Rattle.plan.specs.Frames.{no-frame, has}
+use Rattle.plan.specs.Plans.{outline, outlines, listed, layers-in, frame-in, above, seen, patch-at, hidden-patch, Fits}
+use Rattle.plan.proofs.Sifts.{open-low}
+use Rattle.plan.proofs.Patches.{any-of, hidden-open}
 use Rattle.hold.specs.declared.spot.Spot.{Spot}
 use Rattle.hold.specs.declared.spot.Spot.the-variants.{Screen, Store}
 use Rattle.hold.specs.Spots.{slot-x, slot-y, own-slot, screen-spot, store-spot, spot-of}
 use Rattle.hold.specs.Held.{Fitting, Own-pixel}
-
--- ── Listed clients ──
-
-low-by : (x c : ℕ) (b m : Bool) → eqb x c ≡ b → x < 8 → (m ≡ true → c < 8) → (b || m) ≡ true → c < 8
-low-by x c true m e l more h = omega (arith, eqb-true x c e)
-low-by x c false m e l more h = more h
-
-lows : (n c : ℕ) (xs : List ℕ) → ((k : ℕ) → getD xs k 0 < 8) → has c (take n xs) ≡ true → c < 8
-lows zero c xs h k = absurd (false≢true k)
-lows (suc n) c [] h k = absurd (false≢true k)
-lows (suc n) c (x ∷ xs) h k = low-by x c (eqb x c) (has c (take n xs)) refl (h 0) (λ m. lows n c xs (λ i. h (suc i)) m) k
-
--- A client with an open layer is at most 7.
-pub listed-low : (p : Plan) (c : ℕ) → has c (listed p) ≡ true → c < 8
-listed-low p c h = lows (p .count) c (p .order) (p .low) h
 
 -- ── The layers above one ──
 
@@ -72,19 +59,6 @@ module _ (fs : List Frame) where
       go ih true ea false eb mc md gc gd = both-ways _ gc (covered-listed d x y es md kd)
       go ih false ea true eb mc md gc gd = both-ways _ gd (covered-listed c x y es mc kc)
       go ih false ea false eb mc md gc gd = ih mc md kc kd gc gd
-
-  -- what is hidden of a listed client's layer
-  hidden-own : (screen : Size) (c i j : ℕ) (cs : List ℕ) → has c cs ≡ true
-      → hidden-in screen (outlines cs fs) c i j ≡ hidden screen (above c (outlines cs fs)) (outline c (getD fs c no-frame)) i j
-  hidden-own screen c i j [] h = absurd (false≢true h)
-  hidden-own screen c i j (d ∷ ds) h = go (hidden-own screen c i j ds) (eqb d c) refl h
-    where
-      go : (has c ds ≡ true → hidden-in screen (outlines ds fs) c i j ≡ hidden screen (above c (outlines ds fs)) (outline c (getD fs c no-frame)) i j)
-          → (b : Bool) → eqb d c ≡ b → (b || has c ds) ≡ true
-          → cond b (hidden screen (outlines ds fs) (outline d (getD fs d no-frame)) i j) (hidden-in screen (outlines ds fs) c i j)
-          ≡ hidden screen (cond b (outlines ds fs) (above c (outlines ds fs))) (outline c (getD fs c no-frame)) i j
-      go ih true e m = ap (λ n. hidden screen (outlines ds fs) (outline n (getD fs n no-frame)) i j) (eqb-true d c e)
-      go ih false e m = ih m
 
 -- ── Visible pixels ──
 
@@ -121,17 +95,14 @@ seen-covers p c u v x y o s =
 
 -- ── Obscured pixels ──
 
-any-true : (f : ℕ → Bool) (n k : ℕ) → k < n → f k ≡ true → any-below f n ≡ true
-any-true f n k h e = ⊎-elim (λ (t : any-below f n ≡ true). t) (λ (t : any-below f n ≡ false). absurd (both-ways (f k) (each-below f n t k h) e)) (cases-bool (any-below f n))
-
 -- the patch of an obscured pixel is hidden
 obscured-hides : (screen : Size) (higher : List Layer) (l : Layer) (u v : ℕ) → obscured screen higher l u v ≡ true → hidden screen higher l (u / 16) (v / 16) ≡ true
 unfolding hidden
 obscured-hides screen higher l u v e =
     let eu : 16 * (u / 16) + u % 16 ≡ u = omega arith in
     let ev : 16 * (v / 16) + v % 16 ≡ v = omega arith in
-    any-true (λ b. any-below (λ a. obscured screen higher l (16 * (u / 16) + a) (16 * (v / 16) + b)) 16) 16 (v % 16) (omega arith)
-    (any-true (λ a. obscured screen higher l (16 * (u / 16) + a) (16 * (v / 16) + v % 16)) 16 (u % 16) (omega arith) (ap₂ (obscured screen higher l) eu ev ∙ e))
+    any-of (λ b. any-below (λ a. obscured screen higher l (16 * (u / 16) + a) (16 * (v / 16) + b)) 16) 16 (v % 16) (omega arith)
+    (any-of (λ a. obscured screen higher l (16 * (u / 16) + a) (16 * (v / 16) + v % 16)) 16 (u % 16) (omega arith) (ap₂ (obscured screen higher l) eu ev ∙ e))
 
 -- the number of a patch, taken apart
 pub record Patch-parts (c i j : ℕ) : Type 0 where
@@ -151,7 +122,7 @@ module _ (p : Plan) (c u v : ℕ) (o : Own-pixel p c u v) where
   own-row = omega (arith, o .down, p .short c)
 
   pub own-patch : patch-at c (u / 16) (v / 16) < 2400
-  own-patch = omega (arith, own-column, own-row, listed-low p c (o .opened))
+  own-patch = omega (arith, own-column, own-row, open-low p c (o .opened))
 
   own-hidden : hidden-patch p (patch-at c (u / 16) (v / 16)) ≡ hidden-in (p .screen) (layers-in p) c (u / 16) (v / 16)
   own-hidden =
@@ -164,7 +135,7 @@ module _ (p : Plan) (c u v : ℕ) (o : Own-pixel p c u v) where
       let l = outline c (frame-in p c) in
       let ob : obscured (p .screen) (above c (layers-in p)) l u v ≡ true = and-from _ _ (and-from _ _ (lt-ltb u _ (o .across)) (lt-ltb v _ (o .down))) (not-from-false _ e) in
       ltb-true _ _
-      (fits (patch-at c (u / 16) (v / 16)) own-patch ∙ own-hidden ∙ hidden-own (p .frames) (p .screen) c (u / 16) (v / 16) (listed p) (o .opened)
+      (fits (patch-at c (u / 16) (v / 16)) own-patch ∙ own-hidden ∙ hidden-open (p .screen) (p .frames) c (u / 16) (v / 16) (listed p) (o .opened)
       ∙ obscured-hides (p .screen) (above c (layers-in p)) l u v ob)
 
 -- ── Within ──

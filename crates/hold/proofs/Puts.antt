@@ -1,12 +1,11 @@
 -- A value put at the spot of a pixel: that pixel has it, and every other of an open layer stays.
-use mathlib.Core.Path.{_≡_, refl, sym, _∙_, ap, ap₂, subst}
+use mathlib.Core.Path.{_≡_, refl, sym, _∙_, ap, ap₂}
 use mathlib.Core.Bool.{Bool, true, false, cond, _&&_}
-use mathlib.Core.Logic.{_⊎_, inl, inr, ⊎-elim}
+use mathlib.Core.Logic.{_⊎_, ⊎-elim}
 use Prim.Native.Nat.{ℕ, _^_, _%_, _<_}
 use native.Mathlib.Nat.{mod-eq-of-lt}
-use native.Mathlib.Omega.{arith}
 use lib.Dec.{eqb}
-use Rattle.std.proofs.shelf.Tests.{true≢false, and-parts, and-from, and-left, and-cases, eqb-true, eqb-false, eq-eqb, cases-bool, cond-true, cond-false}
+use Rattle.std.proofs.shelf.Tests.{true≢false, and-parts, and-from, eqb-true, eq-eqb, cases-bool, cond-true, cond-false}
 use Rattle.raster.specs.Picture.{Picture, sizes, painted, with-pixel}
 use Rattle.raster.specs.declared.size.Size.{Size}
 use Rattle.raster.proofs.Paints.{painted-sizes, painted-at}

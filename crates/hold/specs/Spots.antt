@@ -1,9 +1,8 @@
 -- Where a pixel of a layer lies, and what is held there.
-use mathlib.Core.Bool.{Bool, cond}
+use mathlib.Core.Bool.{cond}
 use Prim.Native.Nat.{ℕ, _+_, _*_, _/_, _%_, _^_, _<_}
-use lib.IntN.{ℤ, pos, natAbs, _+ℤ_}
+use lib.IntN.{pos, natAbs, _+ℤ_}
 use Rattle.raster.specs.Picture.{Picture, with-pixel}
-use Rattle.raster.specs.declared.size.Size.{Size}
 use Rattle.plan.specs.declared.plan.Plan.{Plan}
 use Rattle.plan.specs.declared.slots.Slots.{Slots}
 use Rattle.plan.specs.Plans.{frame-in, seen, patch-at, slot-of}

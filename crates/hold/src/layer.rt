@@ -1,7 +1,8 @@
 //! Single pixels of layers, read and set where they lie.
 ghost use mathlib.Core.Path.{_≡_};
 ghost use Prim.Native.Nat.{_%_, _<_, _^_};
-ghost use Rattle.hold.specs.Held.{held, Fitting, Own-pixel, Pixel-put};
+ghost use Rattle.hold.specs.Held.{held, Own-pixel, Pixel-put};
+ghost use Rattle.hold.specs.Bitmaps.{Suits};
 use crate::find::find;
 use crate::single::pixel;
 use crate::single::set_pixel;
@@ -27,7 +28,7 @@ pub fn read_pixel<S: Bitmap, T: Bitmap>(
     u: u16,
     v: u16,
 ) -> u8
-    ensures { λ r. ⌜ (Fitting (S·Bitmap .picture (now (screen .entry))) (T·Bitmap .picture (now (store .entry))) (now (plan .entry)) (now (slots .entry)) → Own-pixel (now (plan .entry)) c u v → r ≡ held (S·Bitmap .picture (now (screen .entry))) (T·Bitmap .picture (now (store .entry))) (now (plan .entry)) (now (slots .entry)) c u v) ⌝ }
+    ensures { λ r. ⌜ (Suits S·Bitmap T·Bitmap (now (plan .entry)) (now (slots .entry)) (now (screen .entry)) (now (store .entry)) → Own-pixel (now (plan .entry)) c u v → r ≡ held (S·Bitmap .picture (now (screen .entry))) (T·Bitmap .picture (now (store .entry))) (now (plan .entry)) (now (slots .entry)) c u v) ⌝ }
 {
     match find(plan, slots, store.size().width, c, u, v) {
         Some(Spot::Screen(x, y)) => pixel(screen, x, y),
@@ -47,7 +48,7 @@ pub fn put_pixel<S: Bitmap, T: Bitmap>(
     v: u16,
     value: u8,
 )
-    ensures put { λ _. ⌜ (Fitting (S·Bitmap .picture (now (screen .entry))) (T·Bitmap .picture (now (store .entry))) (now (plan .entry)) (now (slots .entry)) → Own-pixel (now (plan .entry)) c u v → value < 2 ^ S·Bitmap .picture (now (screen .entry)) .depth → Pixel-put (now (plan .entry)) (now (slots .entry)) (S·Bitmap .picture (now (screen .entry))) (T·Bitmap .picture (now (store .entry))) (S·Bitmap .picture (now (screen .exit))) (T·Bitmap .picture (now (store .exit))) c u v value) ⌝ }
+    ensures put { λ _. ⌜ (Suits S·Bitmap T·Bitmap (now (plan .entry)) (now (slots .entry)) (now (screen .entry)) (now (store .entry)) → Own-pixel (now (plan .entry)) c u v → value < 2 ^ S·Bitmap .picture (now (screen .entry)) .depth → Pixel-put (now (plan .entry)) (now (slots .entry)) (S·Bitmap .picture (now (screen .entry))) (T·Bitmap .picture (now (store .entry))) (S·Bitmap .picture (now (screen .exit))) (T·Bitmap .picture (now (store .exit))) c u v value) ⌝ }
     ensures screen { λ _. ⌜ S·Bitmap .keeps (now (screen .entry)) (now (screen .exit)) ⌝ }
     ensures store { λ _. ⌜ T·Bitmap .keeps (now (store .entry)) (now (store .exit)) ⌝ }
 {

@@ -1,8 +1,7 @@
-use mathlib.Core.Path.{_≡_, sym, ap, _∙_}
+use mathlib.Core.Path.{_≡_, ap, _∙_}
 use Prim.Native.Nat.{ℕ, _+_, _%_}
 use native.Mathlib.Omega.{arith}
 use Rattle.std.specs.declared.option.Option.the-variants.{Some}
-use Rattle.plan.specs.Plans.{seen}
 use Rattle.hold.specs.declared.spot.Spot.the-variants.{Store}
 use Rattle.hold.specs.Spots.{slot-x, slot-y}
 use Rattle.hold.proofs.Finds.{found-seen, found-unseen, found-slot, found-wide, found-stored}

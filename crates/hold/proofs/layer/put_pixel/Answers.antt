@@ -1,6 +1,6 @@
 use mathlib.Core.Path.{sym, ap}
 use Rattle.raster.specs.declared.size.Size.{Size}
-use Rattle.hold.proofs.Papers.{put-on-screen, put-in-store}
+use Rattle.hold.proofs.Drawings.{put-on-screen, put-in-store}
 use Rattle.hold.proofs.layer.put_pixel.Needs as need
 
 pub returns-in-Some-Screen : need.returns-in-Some-Screen
