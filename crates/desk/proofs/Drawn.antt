@@ -29,7 +29,8 @@ use Rattle.desk.specs.declared.book.Book.{Book}
 use Rattle.desk.specs.Carried.{carry}
 use Rattle.desk.specs.Desks.{same-size, made-for, on-pictures, used-by, state-on}
 use Rattle.desk.proofs.Fits.{fitting, paper-fits, open-listed, open-pane}
-use Rattle.desk.proofs.Idle.{used-is, refused-does}
+use Rattle.desk.proofs.Counted.{used-is}
+use Rattle.desk.proofs.Idle.{refused-does}
 use Rattle.desk.proofs.Answered.{check-refused, check-open, own-check}
 
 -- a book fits by sizes alone

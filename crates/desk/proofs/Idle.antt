@@ -22,10 +22,12 @@ use Rattle.paper.specs.Run.{State, Becomes, Does}
 use Rattle.paper.proofs.View.{answer-refused, after-refused}
 use Rattle.plan.specs.Plans.{layers-in}
 use Rattle.hold.specs.Held.{Fitting, paper-of}
-use Rattle.hold.proofs.Papers.{paper-covered, paper-shows}
+use Rattle.hold.proofs.Papers.{paper-covered}
+use Rattle.hold.proofs.Shows.{paper-shows}
 use Rattle.desk.specs.declared.book.Book.{Book}
-use Rattle.desk.specs.Desks.{same-size, made-for, on-pictures, in-use, used-by, state-on}
+use Rattle.desk.specs.Desks.{same-size, made-for, on-pictures, used-by, state-on}
 use Rattle.desk.proofs.Fits.{fitting, paper-fits, paper-other}
+use Rattle.desk.proofs.Counted.{used-is}
 
 -- painting what is there changes nothing
 painted-same-value : (p : Picture) (t : ℕ → ℕ → Bool) (v : ℕ → ℕ → ℕ) → ((x y : ℕ) → t x y ≡ true → v x y ≡ p .at x y) → painted p t v ≡ p
@@ -58,11 +60,8 @@ module _ (screen store : Picture) (b : Book) where
       sym (ap (λ (e : paper.Desk). screen-after screen e e) (paper-other screen store b t) ∙ painted-none screen _ _ (λ x y. and-right (inside (sizes screen) (pos x) (pos y)) false refl)))
       (cases-bool (made-for screen store b))
 
-  pub used-is : used-by screen store b ≡ hidden-count (on-pictures screen store b)
-  used-is = ?
-
   pub idle : Becomes (state-on screen store b) (on-pictures screen store b) (state-on screen store b)
-  idle = record { paper = refl; screen = screen-idle; used = used-is }
+  idle = record { paper = refl; screen = screen-idle; used = used-is screen store b }
 
   pub refused-does : (k : Call) (f : DeskFault) → fault-of (on-pictures screen store b) k ≡ Some f → Does (state-on screen store b) k (Err f) (state-on screen store b)
   refused-does k f e =

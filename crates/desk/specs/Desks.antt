@@ -8,11 +8,10 @@ use Rattle.raster.specs.declared.bitmap.Bitmap.{Ghosts}
 use Rattle.raster.specs.declared.size.Size.{Size}
 use Rattle.paper.specs.Layers as paper
 use Rattle.paper.specs.Layers.{new-desk}
-use Rattle.raster.specs.Rules.{total}
 use Rattle.paper.specs.Slots.{slots-of}
 use Rattle.paper.specs.Run.{State}
-use Rattle.plan.specs.declared.slots.Slots.{Slots}
 use Rattle.plan.specs.Plans.{has-slot}
+use Rattle.plan.specs.Allots.{passing}
 use Rattle.hold.specs.Held.{paper-of}
 use Rattle.desk.specs.declared.book.Book.{Book}
 use Rattle.desk.specs.declared.desk.Desk.{Desk}
@@ -31,11 +30,8 @@ on-pictures screen store b =
     cond (made-for screen store b) (paper-of screen store (b .plan) (b .slots)) (new-desk (sizes screen) (slots-of (sizes store) (screen .depth)))
 
 -- The slots in use, by the book.
-unfoldable pub in-use : Slots → ℕ
-in-use t = total (λ k. cond (has-slot t k) 1 0) 2400
-
 unfoldable pub used-by : (screen store : Picture) → Book → ℕ
-used-by screen store b = cond (made-for screen store b) (in-use (b .slots)) 0
+used-by screen store b = cond (made-for screen store b) (passing (has-slot (b .slots))) 0
 
 -- What stands: the desk on paper, the pixels in the screen, and the slots in use.
 abbrev pub state-on : (screen store : Picture) → Book → State

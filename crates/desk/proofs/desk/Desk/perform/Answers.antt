@@ -55,7 +55,7 @@ returns-in-Ok g c =
       does = λ k b same pre.
           let p : Performs (sizes (pane (a .c) (on-pictures s t (d .book)))) b blit = subst (λ (r : Result Blit Fault). Prepares (sizes (pane (a .c) (on-pictures s t (d .book)))) b r) (c .in-Ok .is) pre in
           drawing-does s t (d .book) (a .c) ok (g .S·Bitmap .picture (c .paint .last .screen)) (g .T·Bitmap .picture (c .paint .last .store)) k b same blit p
-          (c .paint .ensures .drawn (fitting s t (d .book) (drawing-fits s t (d .book) (a .c) ok)) (blit-within s t (d .book) (a .c) ok b blit p))
+          (c .paint .ensures .drawn (blit-within s t (d .book) (a .c) ok b blit p) (fitting s t (d .book) (drawing-fits s t (d .book) (a .c) ok)))
           (c .count .result) (c .count .ensures);
       rest = record { screen = c .paint .ensures .screen; store = c .paint .ensures .store };
       refused = tt;

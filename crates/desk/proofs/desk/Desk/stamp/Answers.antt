@@ -43,7 +43,7 @@ returns g c =
         (c .size-from .ensures) (c .pane-size-size .ensures) (c .in-Continue-rule .ensures tt .1) (simp toZ-ofZ at (c .clip-columns .ensures)) (simp toZ-ofZ at (c .clip-rows .ensures)) in
     record {
       does = stamp-does s t (d .book) (a .c) move source ok (g .S·Bitmap .picture (c .stamp .last .screen)) (g .T·Bitmap .picture (c .stamp .last .store))
-          (c .stamp .ensures .drawn move (fitting s t (d .book) (stamp-fits s t (d .book) (a .c) move source ok)) clipped) (c .stamp .result) (c .stamp .ensures .count move clipped);
+          (c .stamp .ensures .drawn move clipped (fitting s t (d .book) (stamp-fits s t (d .book) (a .c) move source ok))) (c .stamp .result) (c .stamp .ensures .count move clipped);
       rest = record { screen = c .stamp .ensures .screen; store = c .stamp .ensures .store };
       refused = tt;
     }
