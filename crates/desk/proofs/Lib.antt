@@ -5,3 +5,5 @@ pub mod Counted
 pub mod Idle
 pub mod Drawn
 pub mod Stamped
+pub mod Settles
+pub mod Reordered

@@ -3,7 +3,9 @@ mod ask;
 mod book;
 mod desk;
 mod drawing;
+mod moves;
 mod read;
+mod rearranging;
 mod stamping;
 
 pub use book::Book;

@@ -88,7 +88,7 @@ module _ (c : ℕ) (p : Picture) (d : Desk) (e : sizes p ≡ sizes (pane c d)) w
 -- ── More passes, more patches ──
 
 -- b passes where a does
-abbrev Implies : Bool → Bool → Type 0
+abbrev pub Implies : Bool → Bool → Type 0
 Implies a b = a ≡ true → b ≡ true
 
 total-mono : (f g : ℕ → ℕ) → ((k : ℕ) → f k ≤ g k) → (n : ℕ) → total f n ≤ total g n
@@ -148,7 +148,7 @@ module _ (keeps : ℕ → Bool) where
       (covered (keep keeps ls) (l .x +ℤ pos (16 * i + u)) (l .y +ℤ pos (16 * j + v))) (covered ls (l .x +ℤ pos (16 * i + u)) (l .y +ℤ pos (16 * j + v)))
       (covered-mono ls (l .x +ℤ pos (16 * i + u)) (l .y +ℤ pos (16 * j + v)))) 16) 16
 
-  hidden-in-mono : (screen : Size) (ls : List Layer) (c i j : ℕ) → keeps c ≡ true → Implies (hidden-in screen (keep keeps ls) c i j) (hidden-in screen ls c i j)
+  pub hidden-in-mono : (screen : Size) (ls : List Layer) (c i j : ℕ) → keeps c ≡ true → Implies (hidden-in screen (keep keeps ls) c i j) (hidden-in screen ls c i j)
   hidden-in-mono screen [] c i j k = λ h. h
   hidden-in-mono screen (l ∷ ls) c i j k = go (hidden-in-mono screen ls c i j k) (keeps (l .client)) refl (eqb (l .client) c) refl
     where
