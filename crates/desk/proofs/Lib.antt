@@ -7,3 +7,4 @@ pub mod Drawn
 pub mod Stamped
 pub mod Settles
 pub mod Reordered
+pub mod Moved

@@ -1,11 +1,12 @@
 -- How a desk goes over to another arrangement.
 use mathlib.Core.Path.{_≡_}
 use mathlib.Core.Bool.{true}
-use mathlib.Core.List.{_++_}
-use Prim.Native.Nat.{ℕ, _<_}
+use mathlib.Core.List.{[], _++_}
+use Prim.Native.Nat.{ℕ, _<_, min}
 use Rattle.std.specs.declared.result.Result.{Result}
 use Rattle.std.specs.declared.result.Result.the-variants.{Ok, Err}
 use Rattle.raster.specs.Picture.{Picture, sizes}
+use Rattle.raster.specs.declared.size.Size.{Size}
 use Rattle.paper.specs.declared.DeskFault.{DeskFault}
 use Rattle.paper.specs.Layers.{only, without}
 use Rattle.paper.specs.Desk.{Call, raise-layer, lower-layer, Answer}
@@ -32,6 +33,12 @@ Serves q t = (k : ℕ) → k < 2400 → hidden-patch q k ≡ true → has-slot t
 pub record Settled (q : Plan) (t : Slots) (b : Book) : Type 0 where
   pub plan : b .plan ≡ q
   pub slots : Retained t (hidden-patch q) (b .slots)
+
+-- A book without layers, for a screen of a size and a number of slots.
+pub record Fresh (screen : Size) (places : ℕ) (b : Book) : Type 0 where
+  pub layers : listed (b .plan) ≡ []
+  pub size : b .plan .screen ≡ screen
+  pub slots : b .slots .places ≡ min places 4096
 
 -- What showed in an area of the screen was stowed by the arrangement p, and the area repainted by q, with the slots of t.
 pub record Rearranges (p q : Plan) (t : Slots) (area : Frame) (screen store screen′ store′ : Picture) : Type 0 where

@@ -4,6 +4,7 @@ mod book;
 mod desk;
 mod drawing;
 mod moves;
+mod opening;
 mod read;
 mod rearranging;
 mod stamping;
