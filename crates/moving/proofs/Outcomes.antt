@@ -29,6 +29,7 @@ use Rattle.moving.proofs.Dressed.{held-paper}
 use Rattle.moving.proofs.Rearranged.{desk-same, rearranged, rearranged-sizes, rearranged-screen}
 use Rattle.moving.proofs.Opened.{opened, opened-sizes, opened-screen}
 use Rattle.moving.proofs.Blanks.{filled-zero}
+use Rattle.moving.proofs.Tables.{slots-given, given-fits, moved-given, closed-given, closed-fits}
 use Rattle.moving.proofs.Orders.{raised-same-off, lowered-same-off, closed-same-off, moved-same-off, opened-same-off, opened-topmost, stays-still, stays-moved, raised-paper, lowered-paper, closed-paper, moved-paper, opened-paper}
 
 -- the desk on paper, and every pixel where its spot says, before the call
@@ -96,6 +97,9 @@ opens s m m₁ s′ m′ p q t t′ t″ c f b can a others own st bl re =
 
 pub moving-laws : Moving-laws
 moving-laws = record {
+  supplied = λ p q t t′ t″ moved f a r. (slots-given p q t t′ t″ moved f a r, given-fits p q t t′ t″ moved f a r);
+  all-supplied = moved-given;
+  none-supplied = λ p q t t″ c f e l r. (closed-given p q t t″ c f e l r, closed-fits p q t t″ c f e l r);
   raised = λ s m s′ m′ p q t t′ t″ c b h a f st re.
       turned s m s′ m′ p q t t′ t″ b c _ (raised-same-off p q c (a .screen) h (a .layers)) (λ d i. sym (a .clients d) ∙ i) f st re
       (on-paper s m p t (λ d. change d (raise-layer c)) _ (raised-paper s m p q c (held s m p t) (a .layers)));
