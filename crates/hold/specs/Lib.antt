@@ -1,2 +1,3 @@
 pub mod Spots
 pub mod Held
+pub mod Bitmaps

@@ -1,9 +1,8 @@
 -- Where a pixel of a layer lies, and what is held there.
-use mathlib.Core.Bool.{Bool, cond}
-use Prim.Native.Nat.{ℕ, _+_, _*_, _/_, _%_, _^_}
-use lib.IntN.{ℤ, pos, natAbs, _+ℤ_}
-use Rattle.raster.specs.Picture.{Picture}
-use Rattle.raster.specs.declared.size.Size.{Size}
+use mathlib.Core.Bool.{cond}
+use Prim.Native.Nat.{ℕ, _+_, _*_, _/_, _%_, _^_, _<_}
+use lib.IntN.{pos, natAbs, _+ℤ_}
+use Rattle.raster.specs.Picture.{Picture, with-pixel}
 use Rattle.plan.specs.declared.plan.Plan.{Plan}
 use Rattle.plan.specs.declared.slots.Slots.{Slots}
 use Rattle.plan.specs.Plans.{frame-in, seen, patch-at, slot-of}
@@ -36,3 +35,18 @@ spot-of width p t c u v = cond (seen p c u v) (screen-spot p c u v) (store-spot 
 abbrev pub look : (screen store : Picture) → Spot → ℕ
 look screen store (Screen x y) = screen .at x y
 look screen store (Store x y) = store .at x y % 2 ^ screen .depth
+
+-- A picture has the pixel (x, y), and it can have the value.
+pub record Settable (p : Picture) (x y value : ℕ) : Type 0 where
+  pub across : x < p .width
+  pub down : y < p .height
+  pub small : value < 2 ^ p .depth
+
+-- Screen and store with a value at a spot.
+abbrev pub screen-with : Picture → Spot → ℕ → Picture
+screen-with screen (Screen x y) value = with-pixel screen x y value
+screen-with screen (Store x y) value = screen
+
+abbrev pub store-with : Picture → Spot → ℕ → Picture
+store-with store (Screen x y) value = store
+store-with store (Store x y) value = with-pixel store x y value

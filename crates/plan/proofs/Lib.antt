@@ -5,3 +5,5 @@ pub mod Sifts
 pub mod Patches
 pub mod Counts
 pub mod Supplies
+pub mod Regroup
+pub mod Lawful

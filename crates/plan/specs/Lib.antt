@@ -3,3 +3,4 @@ pub mod Plans
 pub mod Areas
 pub mod Arranged
 pub mod Allots
+pub mod Laws

@@ -1,0 +1,4 @@
+pub mod Strokes
+pub mod Stamped
+pub mod Stamps
+pub mod Calls
