@@ -1,11 +1,11 @@
 -- Filling with 0, and blanking slot by slot.
 use mathlib.Core.Path.{_≡_, refl, sym, ap, ap₂, subst, _∙_}
-use mathlib.Core.Bool.{Bool, true, false, cond, _&&_, _||_}
+use mathlib.Core.Bool.{Bool, true, false, cond, _&&_}
 use mathlib.Core.Logic.{⊎-elim}
-use Prim.Native.Nat.{ℕ, zero, suc, _+_, _-_, _*_, _/_, _%_, _^_, _<_, _≤_}
+use Prim.Native.Nat.{ℕ, _+_, _-_, _*_, _/_, _%_, _^_, _<_, _≤_}
 use native.Mathlib.Omega.{arith}
 use native.Mathlib.Nat.{mod-lt, div-lt-iff-lt-mul, mul-comm}
-use lib.Dec.{eqb, ltb, leb}
+use lib.Dec.{ltb}
 use lib.IntN.{ℤ, pos}
 use Rattle.std.proofs.shelf.Bits.{pow-pos}
 use Rattle.std.proofs.shelf.Ways.{tells}
@@ -20,11 +20,13 @@ use Rattle.raster.specs.Calls.{fill-with, fill-transfer, bitmap-after}
 use Rattle.raster.specs.declared.size.Size.{Size}
 use Rattle.raster.proofs.Accepts.{fill-accepted, after-accepted}
 use Rattle.raster.proofs.Lawful.{bitmap-laws}
-use Rattle.raster.proofs.Paints.{painted-at, painted-sizes, painted-same}
+use Rattle.raster.proofs.Paints.{painted-at, painted-same}
 use Rattle.plan.specs.declared.frame.Frame.{Frame}
 use Rattle.plan.specs.declared.slots.Slots.{Slots}
 use Rattle.plan.specs.Plans.{patch-at, slot-of, has-slot}
 use Rattle.hold.specs.Spots.{slot-x, slot-y, own-slot}
+use Rattle.hold.proofs.Places.{some-across}
+use Rattle.moving.proofs.Areas.{and-swap}
 use Rattle.moving.specs.Phases.{on-screen, in-slot, store-x, store-y, in-store, Blanked}
 
 -- A rectangle filled with 0, by the rule that takes the source.
@@ -50,14 +52,10 @@ pub square : (m : Picture) (k : ℕ) → k < (m .width / 16) * (m .height / 16) 
 square m k h =
     let n : ℕ = m .width / 16 in
     let j : ℕ = m .height / 16 in
-    let some : 0 < n = wide n j k h in
+    let some : 0 < n = some-across k n j h in
     let left : k % n < n = mod-lt k some in
     let up : k / n < j = div-lt-iff-lt-mul some .1 (rw (mul-comm n j) at h) in
     record { wide = some; across = omega arith; down = omega arith }
-  where
-    wide : (n j k : ℕ) → k < n * j → 0 < n
-    wide zero j k h = absurd (omega arith)
-    wide (suc n) j k h = omega arith
 
 pub slot-filled : (m : Picture) (k : ℕ) (zx zy : ℤ) → k < (m .width / 16) * (m .height / 16) → zx ≡ pos (slot-x (m .width) k) → zy ≡ pos (slot-y (m .width) k)
     → bitmap-after m (fill-with 3 0 zx zy 16 16) ≡ painted m (in-slot (m .width) k) (λ _ _. 0)
@@ -66,7 +64,7 @@ slot-filled m k zx zy h ex ey =
     filled-zero m (record { x = zx; y = zy; w = 16; h = 16 })
     ∙ painted-same m _ (in-slot (m .width) k) (λ _ _. 0) (λ _ _. 0)
     (λ x y.
-    swap (holds zx 16 (pos x)) (holds zy 16 (pos y)) (holds (pos 0) (m .width) (pos x)) (holds (pos 0) (m .height) (pos y))
+    and-swap (holds zx 16 (pos x)) (holds zy 16 (pos y)) (holds (pos 0) (m .width) (pos x)) (holds (pos 0) (m .height) (pos y))
     ∙ ap₂ _&&_ (axis zx (slot-x (m .width) k) (m .width) x ex (q .across)) (axis zy (slot-y (m .width) k) (m .height) y ey (q .down)))
     (λ x y t. refl)
   where
@@ -75,11 +73,6 @@ slot-filled m k zx zy h ex ey =
       where
         plain : (first size x : ℕ) → first + 16 ≤ size → (holds (pos first) 16 (pos x) && holds (pos 0) size (pos x)) ≡ between first 16 x
         plain first size x h = grind (arith, ints, tells)
-    swap : (a b c d : Bool) → ((a && b) && (c && d)) ≡ ((a && c) && (b && d))
-    swap true true c d = refl
-    swap true false true d = refl
-    swap true false false d = refl
-    swap false b c d = refl
 
 -- ── Patch by patch ──
 

@@ -1,30 +1,29 @@
 -- A new layer: after the others were stowed, its part of the screen set to 0 and its slots blanked, every pixel is where its spot says.
 use mathlib.Core.Path.{_≡_, refl, sym, ap, ap₂, subst, _∙_}
-use mathlib.Core.Bool.{Bool, true, false, cond, _&&_, _||_}
+use mathlib.Core.Bool.{Bool, true, false, cond}
 use mathlib.Core.Logic.{⊎-elim}
 use Prim.Native.Nat.{ℕ, _/_, _%_, _^_, _<_}
-use native.Mathlib.Omega.{arith}
 use native.Mathlib.Nat.{zero-mod}
 use lib.Dec.{eqb}
 use lib.IntN.{pos}
 use Rattle.std.proofs.shelf.Tests.{and-from, and-right, or-right, both-ways, cond-true, cond-false, cases-bool, eqb-true, eq-eqb}
 use Rattle.std.specs.Options.{isSome}
-use Rattle.std.specs.declared.option.Option.the-variants.{Some, None}
+use Rattle.std.specs.declared.option.Option.the-variants.{Some}
 use Rattle.raster.specs.Picture.{Picture, sizes, painted}
 use Rattle.raster.specs.Blt.{in-rectangle, inside}
 use Rattle.raster.specs.declared.size.Size.{Size}
 use Rattle.raster.proofs.Paints.{painted-at, painted-sizes}
 use Rattle.paper.specs.Layers.{covered, topmost, screen-after}
 use Rattle.paper.proofs.Screen.{topmost-tells}
-use Rattle.plan.specs.declared.frame.Frame.{Frame}
 use Rattle.plan.specs.declared.plan.Plan.{Plan}
 use Rattle.plan.specs.declared.slots.Slots.{Slots}
 use Rattle.plan.specs.Frames.{has}
 use Rattle.plan.specs.Plans.{outline, listed, layers-in, frame-in, seen, patch-at, hidden-patch}
+use Rattle.plan.proofs.Sifts.{open-low}
 use Rattle.hold.specs.Held.{Pixels, held, Holds}
 use Rattle.moving.specs.Phases.{on-screen, store-x, store-y, in-store, Stowed, Blanked}
 use Rattle.moving.specs.Moves.{desk-with, fresh, Stays, Slotted, Worked}
-use Rattle.moving.proofs.Places.{listed-low, Real, real, real-patch, one-place, place-x, place-y, Shows, Seen-at, shown-by, seen-shows, shows-place, top-is}
+use Rattle.moving.proofs.Places.{real, real-patch, one-place, place-x, place-y, shown-by, seen-shows, top-is}
 use Rattle.moving.proofs.Stows.{Small}
 use Rattle.moving.proofs.Rearranged.{unseen-hidden, held-seen, held-unseen, was-there, same-place, whole, worked, screen-shows}
 
@@ -112,7 +111,7 @@ module _ (p q : Plan) (t t′ t″ : Slots) (c : ℕ) (px : Pixels) (s m m′ m�
             let apart : m″ .at (store-x (m .width) t′ d u v) (store-y (m .width) t′ d u v) ≡ m′ .at (store-x (m .width) t′ d u v) (store-y (m .width) t′ d u v) =
               blanked .others _ _ (λ u′ v′ a b k′ ex ey.
                 let wide : m′ .width ≡ m .width = ap (λ (z : Size). z .width) (stowed .size) in
-                let low : c < 8 = listed-low q c opens in
+                let low : c < 8 = open-low q c opens in
                 both-ways (eqb d c) e (eq-eqb d c (one-place t′ (m .width) d u v c u′ v′ r (record { client = low; column = a; row = b }) (unseen-stored o)
                   (ex ∙ ap (λ w. store-x w t′ c u′ v′) wide) (ey ∙ ap (λ w. store-y w t′ c u′ v′) wide) .0))) in
             in-slot o ∙ ap (λ n. n % 2 ^ s .depth) apart

@@ -1,31 +1,32 @@
 -- What each call comes to, on paper and on the screen.
 use mathlib.Core.Path.{_≡_, refl, sym, ap, ap₂, subst, _∙_}
-use mathlib.Core.Bool.{Bool, true, false, not, _&&_, _||_}
-use mathlib.Core.List.{List, [], _∷_, _++_}
+use mathlib.Core.Bool.{Bool, true, false, not, _||_}
+use mathlib.Core.List.{[], _∷_, _++_}
 use mathlib.Core.Logic.{⊎-elim}
-use Prim.Native.Nat.{ℕ, _<_}
-use lib.Dec.{eqb, ltb}
-use lib.IntN.{ℤ, pos}
-use Rattle.std.proofs.shelf.Tests.{and-parts, or-cases, or-right, both-ways, not-true, eqb-true, eqb-false, cases-bool}
+use Prim.Native.Nat.{ℕ}
+use lib.Dec.{eqb}
+use lib.IntN.{pos}
+use Rattle.std.proofs.shelf.Tests.{and-parts, or-cases, or-right, eqb-true, eqb-false, cases-bool}
 use Rattle.std.specs.declared.option.Option.the-variants.{Some}
-use Rattle.raster.specs.Picture.{Picture, sizes, painted, Sound}
+use Rattle.raster.specs.Picture.{Picture, sizes, painted}
 use Rattle.raster.specs.Calls.{fill-with, bitmap-after}
 use Rattle.raster.specs.declared.size.Size.{Size}
-use Rattle.paper.specs.Layers.{Desk, topmost, only, without, alter, at-corner, screen-after}
+use Rattle.paper.specs.Layers.{Desk, topmost, screen-after}
 use Rattle.paper.specs.Desk.{change, open-layer, close-layer, raise-layer, lower-layer, move-layer}
 use Rattle.plan.specs.declared.frame.Frame.{Frame}
 use Rattle.plan.specs.declared.plan.Plan.{Plan}
 use Rattle.plan.specs.declared.slots.Slots.{Slots}
 use Rattle.plan.specs.Frames.{has}
-use Rattle.plan.specs.Plans.{outline, listed, layers-in, frame-in, patch-of, has-slot}
-use Rattle.plan.specs.Arranged.{Arranged, Same-frames, Other-frames, cornered, can-open}
+use Rattle.plan.specs.Plans.{outline, listed, layers-in, frame-in}
+use Rattle.plan.specs.Arranged.{Arranged, Same-frames, Other-frames, can-open}
 use Rattle.hold.specs.Held.{Pixels, held, Holds, paper-of}
-use Rattle.moving.specs.Phases.{Fitting, on-screen, Stowed, repainted, Blanked}
-use Rattle.moving.specs.Moves.{desk-with, fresh, Stays, Slotted, Worked}
+use Rattle.moving.specs.Phases.{on-screen, Stowed, repainted, Blanked}
+use Rattle.moving.specs.Moves.{desk-with, fresh, Stays, Worked}
 use Rattle.moving.specs.Laws.{Begins, Leaves, Moving-laws}
 use Rattle.moving.proofs.Places.{same-client}
 use Rattle.moving.proofs.Stows.{stowed-join, repainted-join}
-use Rattle.moving.proofs.Dressed.{held-paper}
+use Rattle.plan.proofs.Sifts as sifts
+use Rattle.hold.proofs.Papers.{held-paper}
 use Rattle.moving.proofs.Rearranged.{desk-same, rearranged, rearranged-sizes, rearranged-screen}
 use Rattle.moving.proofs.Opened.{opened, opened-sizes, opened-screen}
 use Rattle.moving.proofs.Blanks.{filled-zero}
@@ -74,7 +75,7 @@ opens : (s m m₁ s′ m′ : Picture) (p q : Plan) (t t′ t″ : Slots) (c : �
     → Leaves s m p t s′ m′ q t″ (change (paper-of s m p t) (open-layer c (f .x) (f .y) (f .w) (f .h)))
 opens s m m₁ s′ m′ p q t t′ t″ c f b can a others own st bl re =
     let px : Pixels = held s m p t in
-    let was : has c (listed p) ≡ false = not-true _ (and-parts (not (has c (listed p))) (ltb (f .w) 321 && ltb (f .h) 241) (and-parts (ltb c 8) (not (has c (listed p)) && (ltb (f .w) 321 && ltb (f .h) 241)) can .1) .0) in
+    let was : has c (listed p) ≡ false = sifts.opens p c f can .none in
     let is : has c (listed q) ≡ true = a .clients c ∙ or-right (has c (listed p)) (eqb c c) (same-client c) in
     let holds : Holds s m p t px = λ c h u v hu hv. refl in
     let small = b .sound .values in

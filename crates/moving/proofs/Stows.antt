@@ -2,12 +2,12 @@
 use mathlib.Core.Path.{_≡_, refl, sym, ap, ap₂, subst, _∙_}
 use mathlib.Core.Bool.{Bool, true, false, cond, _&&_, _||_}
 use mathlib.Core.Logic.{⊎-elim}
-use Prim.Native.Nat.{ℕ, zero, suc, _+_, _*_, _/_, _^_, _<_, _≤_}
+use Prim.Native.Nat.{ℕ, zero, suc, _*_, _/_, _^_, _<_, _≤_}
 use native.Mathlib.Omega.{arith}
 use native.Mathlib.Nat.{mod-lt}
 use lib.Dec.{eqb, ltb}
 use lib.Pow.{pow-mono}
-use Rattle.std.proofs.shelf.Tests.{and-parts, and-from, and-left, and-right, or-cases, or-left, or-right, both-ways, eqb-true, eq-eqb, cond-true, cond-false}
+use Rattle.std.proofs.shelf.Tests.{and-parts, and-from, and-left, or-cases, or-left, or-right, both-ways, eqb-true, eq-eqb, cond-true, cond-false}
 use Rattle.std.proofs.shelf.Bits.{pow-pos}
 use Rattle.std.specs.declared.option.Option.{Option}
 use Rattle.std.specs.declared.option.Option.the-variants.{Some, None}
@@ -18,8 +18,8 @@ use Rattle.plan.specs.declared.plan.Plan.{Plan}
 use Rattle.plan.specs.declared.slots.Slots.{Slots}
 use Rattle.moving.specs.declared.backing.Backing.{Backing}
 use Rattle.moving.specs.declared.backing.Backing.the-variants.{Bare, Alone, Kept}
-use Rattle.moving.specs.Phases.{Fitting, store-x, store-y, just, behind, Stowed, changes, taken, repainted}
-use Rattle.moving.proofs.Places.{behind-one, Within, place-within, Keeps, behind-keeps}
+use Rattle.moving.specs.Phases.{Fitting, store-x, just, behind, Stowed, changes, taken, repainted}
+use Rattle.moving.proofs.Places.{behind-one, Within, place-within, behind-keeps}
 
 -- Values of a picture fit its depth.
 abbrev pub Small : Picture → Type 0

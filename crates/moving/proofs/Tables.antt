@@ -8,15 +8,15 @@ use native.Mathlib.Omega.{arith}
 use lib.Dec.{eqb, ltb}
 use lib.IntN.{ℤ, pos, _+ℤ_}
 use Rattle.std.proofs.shelf.Ways.{tells}
-use Rattle.std.proofs.shelf.Tests.{or-cases, or-left, or-right, both-ways, eqb-true, true≢false, false≢true}
+use Rattle.std.proofs.shelf.Tests.{or-cases, or-left, or-right, false≢true}
 use Rattle.raster.specs.Blt.{inside}
 use Rattle.raster.specs.Calls.{any-below}
 use Rattle.raster.specs.declared.size.Size.{Size}
-use Rattle.paper.specs.Layers.{Layer, covers, covered, keep, without}
+use Rattle.paper.specs.Layers.{Layer, covers, covered, without}
 use Rattle.paper.specs.Slots.{hidden, hidden-in}
 use Rattle.plan.specs.declared.plan.Plan.{Plan}
 use Rattle.plan.specs.declared.slots.Slots.{Slots}
-use Rattle.plan.specs.Plans.{layers-in, hidden-patch, patch-of, needs, slot-of, has-slot, Fits}
+use Rattle.plan.specs.Plans.{layers-in, hidden-patch, patch-of, needs, has-slot, Fits}
 use Rattle.plan.specs.Allots.{Supplied, Retained}
 use Rattle.moving.specs.Moves.{Slotted}
 

@@ -1,21 +1,18 @@
 -- Reads and writes of one pixel that is there.
-use mathlib.Core.Path.{_≡_, refl, sym, ap, ap₂, _∙_}
-use mathlib.Core.Bool.{Bool, true, false}
+use mathlib.Core.Path.{_≡_, ap, ap₂, _∙_}
+use mathlib.Core.Bool.{true}
 use Prim.Native.Nat.{ℕ, _^_, _<_, _≤_}
 use native.Mathlib.Omega.{arith}
-use lib.Dec.{leb}
 use mir.Syntax.{w16}
 use mir.Val.{toZ, ofZ, SFits}
 use lib.IntN.{ℤ, pos, natAbs}
 use Rattle.std.proofs.shelf.Signed.{ints}
 use Rattle.std.proofs.shelf.Ways.{tells}
 use Rattle.std.proofs.shelf.Tests.{lt-leb}
-use Rattle.std.specs.declared.result.Result.{Result}
-use Rattle.std.specs.declared.result.Result.the-variants.{Ok, Err}
+use Rattle.std.specs.declared.result.Result.the-variants.{Ok}
 use Rattle.raster.specs.Picture.{Picture, sizes, with-pixel}
 use Rattle.raster.specs.Blt.{inside}
 use Rattle.raster.specs.Calls.{read-at, write-at, bitmap-answer, bitmap-after}
-use Rattle.raster.specs.declared.fault.Fault.{Fault}
 use Rattle.raster.specs.declared.size.Size.{Size}
 use Rattle.raster.proofs.Accepts.{read-inside, write-as-read, answer-accepted, after-accepted}
 

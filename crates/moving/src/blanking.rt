@@ -1,6 +1,6 @@
 //! Blanking: the slots of a client's patches are set to 0.
 ghost use mathlib.Core.Path.{_≡_};
-ghost use Prim.Native.Nat.{ℕ, _+_, _*_, _/_, _<_, _≤_};
+ghost use Prim.Native.Nat.{_+_, _*_, _/_, _<_, _≤_};
 ghost use Rattle.raster.specs.Picture.{sizes, painted};
 ghost use Rattle.moving.specs.Phases.{in-slot, Blanked};
 use crate::pixel::signed;

@@ -1,6 +1,6 @@
 //! Single pixels of bitmaps.
 ghost use mathlib.Core.Path.{_≡_};
-ghost use Prim.Native.Nat.{ℕ, _<_, _≤_, _%_, _^_};
+ghost use Prim.Native.Nat.{_<_, _%_, _^_};
 ghost use lib.IntN.{pos};
 ghost use Rattle.raster.specs.Picture.{sizes, with-pixel};
 use raster::Bitmap;

@@ -1,6 +1,6 @@
 //! Stowing: what shows on the screen is copied to its place in the store.
 ghost use mathlib.Core.Path.{_≡_};
-ghost use Prim.Native.Nat.{ℕ, _+_, _<_, _≤_};
+ghost use Prim.Native.Nat.{_+_, _<_, _≤_};
 ghost use Rattle.raster.specs.Picture.{sizes};
 ghost use Rattle.moving.specs.Phases.{Fitting, on-screen, just, in-row, Stowed};
 use crate::backing::Backing;

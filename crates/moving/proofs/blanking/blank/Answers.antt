@@ -1,9 +1,8 @@
 use mathlib.Core.Path.{_≡_, refl, sym, ap, subst, _∙_}
-use Prim.Native.Nat.{ℕ, _+_, _*_, _/_, _<_, _≤_}
+use Prim.Native.Nat.{ℕ, _+_, _*_}
 use native.Mathlib.Omega.{arith}
 use Rattle.std.proofs.shelf.Tests.{ltb-true}
 use Rattle.raster.specs.Picture.{sizes}
-use Rattle.raster.specs.declared.size.Size.{Size}
 use Rattle.moving.proofs.Blanks.{Blanking, blank-none, blank-all, blank-turn, blank-past, slot-found}
 use Rattle.moving.proofs.blanking.blank.Needs as need
 use Rattle.moving.proofs.blanking.blank.Needs.{in-Some, in-rest}

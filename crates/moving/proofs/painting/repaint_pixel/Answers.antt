@@ -1,4 +1,4 @@
-use mathlib.Core.Path.{_≡_, refl, sym, ap, _∙_}
+use mathlib.Core.Path.{refl, ap}
 use Rattle.raster.specs.declared.size.Size.{Size}
 use Rattle.moving.proofs.Stows.{paint-some, paint-none, none-is}
 use Rattle.moving.proofs.painting.repaint_pixel.Needs as need
