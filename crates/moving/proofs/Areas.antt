@@ -1,9 +1,9 @@
 -- The places of an area, turn by turn.
 use mathlib.Core.Path.{_≡_, refl, sym, ap, ap₂, subst, _∙_}
-use mathlib.Core.Bool.{Bool, true, false, _&&_, _||_}
-use Prim.Native.Nat.{ℕ, _+_}
+use mathlib.Core.Bool.{Bool, true, false, cond, _&&_, _||_}
+use Prim.Native.Nat.{ℕ, _+_, _*_, _/_, _≤_}
 use native.Mathlib.Omega.{arith}
-use lib.Dec.{eqb}
+use lib.Dec.{eqb, ltb}
 use lib.IntN.{ℤ, pos}
 use Rattle.std.proofs.shelf.Ways.{tells}
 use Rattle.std.proofs.shelf.Signed.{ints}
@@ -103,3 +103,15 @@ area-all screen size f zx zy columns rows j ex ey es ej hc hr a b =
     ap (λ z. on-screen z f a b) es
     ∙ clipped-area size f columns rows (subst (λ (z : ℤ). Clipped z z (f .w) (size .width) (size .width) columns) ex hc) (subst (λ (z : ℤ). Clipped z z (f .h) (size .height) (size .height) rows) ey hr) a b
     ∙ ap (λ n. rows-so-far columns rows n a b) (sym ej)
+
+-- The same with another arrangement on the screen, and another table of the same slots.
+pub fitting-with : (s m : Picture) (p q : Plan) (t t′ : Slots) → q .screen ≡ p .screen → t′ .places ≡ t .places → Fitting s m p t → Fitting s m q t′
+fitting-with s m p q t t′ es et f = record { sized = es ∙ f .sized; places = et ∙ f .places }
+
+-- A table has no more slots than the store has squares.
+pub fitting-few : (s m : Picture) (p : Plan) (t : Slots) → Fitting s m p t → t .places ≤ (m .width / 16) * (m .height / 16)
+fitting-few s m p t f = subst (λ (n : ℕ). n ≤ (m .width / 16) * (m .height / 16)) (sym (f .places)) (go (ltb (m .depth) (s .depth)) ((m .width / 16) * (m .height / 16)))
+  where
+    go : (b : Bool) (n : ℕ) → cond b 0 n ≤ n
+    go true n = omega arith
+    go false n = omega arith

@@ -121,8 +121,8 @@ module _ (t : Slots) (c : ℕ) (m : Picture) where
     pub blank-skip : has-slot t (300 * c + i) ≡ false → Blanking t c (i + 1) m m′
     blank-skip n = record {
       cleared = λ u v hu hv l k. ⊎-elim (λ (h : patch-within u v < i). d .cleared u v hu hv h k) (λ (h : i ≤ patch-within u v).
-        let e : patch-within u v ≡ i = omega arith in
-        absurd (both-ways (in-store t c u v) (ap (has-slot t) (own-patch i u v e) ∙ n) k)) (cases-lt (patch-within u v) i);
+          let e : patch-within u v ≡ i = omega arith in
+          absurd (both-ways (in-store t c u v) (ap (has-slot t) (own-patch i u v e) ∙ n) k)) (cases-lt (patch-within u v) i);
       others = λ a b h. d .others a b (λ u v hu hv l k ea eb. h u v hu hv (omega arith) k ea eb);
     }
 
@@ -130,26 +130,30 @@ module _ (t : Slots) (c : ℕ) (m : Picture) where
     pub blank-one : (m″ : Picture) → has-slot t (300 * c + i) ≡ true → sizes m′ ≡ sizes m → m″ ≡ painted m′ (in-slot (m′ .width) (slot-of t (300 * c + i))) (λ _ _. 0) → Blanking t c (i + 1) m m″
     blank-one m″ k ew em = record {
       cleared = λ u v hu hv l q. there (store-x (m .width) t c u v) (store-y (m .width) t c u v) ∙ ⊎-elim
-        (λ (h : patch-within u v < i). either (in-slot (m .width) (slot-of t (300 * c + i)) (store-x (m .width) t c u v) (store-y (m .width) t c u v)) _ (d .cleared u v hu hv h q))
-        (λ (h : i ≤ patch-within u v).
+          (λ (h : patch-within u v < i). either (in-slot (m .width) (slot-of t (300 * c + i)) (store-x (m .width) t c u v) (store-y (m .width) t c u v)) _ (d .cleared u v hu hv h q))
+          (λ (h : i ≤ patch-within u v).
           let e : patch-within u v ≡ i = omega arith in
           cond-true _ 0 _ (ap (λ n. in-slot (m .width) (slot-of t n) (store-x (m .width) t c u v) (store-y (m .width) t c u v)) (sym (own-patch i u v e))
           ∙ and-from _ _ (in-square (slot-x (m .width) (own-slot t c u v)) (u % 16) (mod-lt u (omega arith))) (in-square (slot-y (m .width) (own-slot t c u v)) (v % 16) (mod-lt v (omega arith))))) (cases-lt (patch-within u v) i);
       others = λ a b h. there a b ∙ ⊎-elim
-        (λ (e : in-slot (m .width) (slot-of t (300 * c + i)) a b ≡ true). absurd (inner a b h e))
-        (λ (e : in-slot (m .width) (slot-of t (300 * c + i)) a b ≡ false). cond-false _ 0 _ e ∙ d .others a b (λ u v hu hv l q ea eb. h u v hu hv (omega arith) q ea eb))
-        (cases-bool (in-slot (m .width) (slot-of t (300 * c + i)) a b));
+          (λ (e : in-slot (m .width) (slot-of t (300 * c + i)) a b ≡ true). absurd (inner a b h e))
+          (λ (e : in-slot (m .width) (slot-of t (300 * c + i)) a b ≡ false). cond-false _ 0 _ e ∙ d .others a b (λ u v hu hv l q ea eb. h u v hu hv (omega arith) q ea eb))
+          (cases-bool (in-slot (m .width) (slot-of t (300 * c + i)) a b));
     }
       where
         there : (a b : ℕ) → m″ .at a b ≡ cond (in-slot (m .width) (slot-of t (300 * c + i)) a b) 0 (m′ .at a b)
         there a b = ap (λ (n : Picture). n .at a b) em ∙ painted-at m′ _ _ a b ∙ ap (λ (z : Size). cond (in-slot (z .width) (slot-of t (300 * c + i)) a b) 0 (m′ .at a b)) ew
+
         either : (b : Bool) (n : ℕ) → n ≡ 0 → cond b 0 n ≡ 0
         either true n e = refl
         either false n e = e
+
         in-square : (first n : ℕ) → n < 16 → between first 16 (first + n) ≡ true
         in-square first n h = grind (arith, tells)
+
         parts : (first a : ℕ) → between first 16 a ≡ true → (first ≤ a) × (a < first + 16)
         parts first a e = (grind (arith, tells), grind (arith, tells))
+
         inner : (a b : ℕ) → ((u v : ℕ) → u < 320 → v < 240 → patch-within u v < i + 1 → in-store t c u v ≡ true → a ≡ store-x (m .width) t c u v → b ≡ store-y (m .width) t c u v → ⊥)
             → in-slot (m .width) (slot-of t (300 * c + i)) a b ≡ true → ⊥
         inner a b h e =

@@ -34,7 +34,6 @@ module _ (p q : Plan) (t t′ t″ : Slots) (c : ℕ) (px : Pixels) (s m m′ m�
     (opens : has c (listed q) ≡ true)
     (on-top : (x y : ℕ) → on-screen (p .screen) (frame-in q c) x y ≡ true → topmost (layers-in q) (pos x) (pos y) ≡ Some (outline c (frame-in q c)))
     (stays : (d : ℕ) → has d (listed q) ≡ true → eqb d c ≡ false → Stays p q t′ d) where
-
   abbrev at : ℕ → ℕ → Bool
   at = on-screen (p .screen) (frame-in q c)
 
@@ -72,9 +71,10 @@ module _ (p q : Plan) (t t′ t″ : Slots) (c : ℕ) (px : Pixels) (s m m′ m�
             let z = seen-shows q d u v h hu hv o in
             let o′ = top-is (listed q) (q .frames) (pos x) (pos y) (outline d (frame-in q d)) (z .shows .top) in
             let i : at x y ≡ true =
-              and-from _ _ (ap (λ (n : ℕ). in-rectangle (frame-in q n .x) (frame-in q n .y) (frame-in q n .w) (frame-in q n .h) (pos x) (pos y)) (sym e) ∙ o′ .covers)
-              (ap (λ n. inside n (pos x) (pos y)) (sym (work .same-screen)) ∙ z .on) in
+            and-from _ _ (ap (λ (n : ℕ). in-rectangle (frame-in q n .x) (frame-in q n .y) (frame-in q n .w) (frame-in q n .h) (pos x) (pos y)) (sym e) ∙ o′ .covers)
+            (ap (λ n. inside n (pos x) (pos y)) (sym (work .same-screen)) ∙ z .on) in
             held-seen s′ m″ q t″ d u v o ∙ there x y ∙ cond-true _ 0 (s .at x y) i
+
         stored : seen q d u v ≡ false → held s′ m″ q t″ d u v ≡ 0
         stored o =
             let r = real q d u v h hu hv in
@@ -88,8 +88,10 @@ module _ (p q : Plan) (t t′ t″ : Slots) (c : ℕ) (px : Pixels) (s m m′ m�
       where
         hu′ : u < frame-in p d .w
         hu′ = subst (λ (n : ℕ). u < n) (stays d h e .width) hu
+
         hv′ : v < frame-in p d .h
         hv′ = subst (λ (n : ℕ). v < n) (stays d h e .height) hv
+
         shows : seen q d u v ≡ true → held s′ m″ q t″ d u v ≡ px d u v
         shows o =
             let x : ℕ = place-x q d u in
@@ -97,23 +99,24 @@ module _ (p q : Plan) (t t′ t″ : Slots) (c : ℕ) (px : Pixels) (s m m′ m�
             let z = seen-shows q d u v h hu hv o in
             let on : inside (p .screen) (pos x) (pos y) ≡ true = ap (λ n. inside n (pos x) (pos y)) (sym (work .same-screen)) ∙ z .on in
             let i : at x y ≡ false = ⊎-elim (λ (w : at x y ≡ true).
-              let same : outline c (frame-in q c) ≡ outline d (frame-in q d) = cc-some _ _ (sym (on-top x y w) ∙ z .shows .top) in
-              absurd (both-ways (eqb d c) e (eq-eqb d c (sym (ap (λ l. l .client) same))))) (λ (w : at x y ≡ false). w) (cases-bool (at x y)) in
+            let same : outline c (frame-in q c) ≡ outline d (frame-in q d) = cc-some _ _ (sym (on-top x y w) ∙ z .shows .top) in
+            absurd (both-ways (eqb d c) e (eq-eqb d c (sym (ap (λ l. l .client) same))))) (λ (w : at x y ≡ false). w) (cases-bool (at x y)) in
             let z′ = shown-by p x y d u v (frame-in q d) (sym (work .off x y on i) ∙ z .shows .top) (z .shows .across) (z .shows .down) in
             held-seen s′ m″ q t″ d u v o ∙ there x y ∙ cond-false _ 0 (s .at x y) i ∙ was-there s m p t px holds x y d u v z′ on
           where
             cc-some : {A : Type 0} (a b : A) → Some a ≡ Some b → a ≡ b
             cc-some a b e = cc
+
         stored : seen q d u v ≡ false → held s′ m″ q t″ d u v ≡ px d u v
         stored o =
             let r = real q d u v h hu hv in
             let was = stays d h e .was in
             let apart : m″ .at (store-x (m .width) t′ d u v) (store-y (m .width) t′ d u v) ≡ m′ .at (store-x (m .width) t′ d u v) (store-y (m .width) t′ d u v) =
-              blanked .others _ _ (λ u′ v′ a b k′ ex ey.
-                let wide : m′ .width ≡ m .width = ap (λ (z : Size). z .width) (stowed .size) in
-                let low : c < 8 = open-low q c opens in
-                both-ways (eqb d c) e (eq-eqb d c (one-place t′ (m .width) d u v c u′ v′ r (record { client = low; column = a; row = b }) (unseen-stored o)
-                  (ex ∙ ap (λ w. store-x w t′ c u′ v′) wide) (ey ∙ ap (λ w. store-y w t′ c u′ v′) wide) .0))) in
+            blanked .others _ _ (λ u′ v′ a b k′ ex ey.
+            let wide : m′ .width ≡ m .width = ap (λ (z : Size). z .width) (stowed .size) in
+            let low : c < 8 = open-low q c opens in
+            both-ways (eqb d c) e (eq-eqb d c (one-place t′ (m .width) d u v c u′ v′ r (record { client = low; column = a; row = b }) (unseen-stored o)
+            (ex ∙ ap (λ w. store-x w t′ c u′ v′) wide) (ey ∙ ap (λ w. store-y w t′ c u′ v′) wide) .0))) in
             in-slot o ∙ ap (λ n. n % 2 ^ s .depth) apart
             ∙ whole p q t t′ t″ at px s m m′ small holds slots work stowed d u v was hu′ hv′ (unseen-stored o)
             (worked p q t t′ t″ at px s m m′ small holds slots work stowed d u v was hu′ hv′ (λ i. absurd (both-ways (seen q d u v) o i)))

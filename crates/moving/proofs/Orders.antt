@@ -228,11 +228,13 @@ opened-paper s m p q c f px none e =
         go : (b : Bool) → eqb d c ≡ b → cond b 0 (px d u v) ≡ px d u v
         go true k = absurd (both-ways (has c (listed p)) none (ap (λ n. has n (listed p)) (sym (eqb-true d c k)) ∙ h))
         go false k = refl
+
     nothing : (u v : ℕ) → cond (ltb u (f .w) && ltb v (f .h)) (fresh c px c u v) 0 ≡ 0
     nothing u v = ap (λ b. cond (ltb u (f .w) && ltb v (f .h)) (cond b 0 (px c u v)) 0) (same-client c) ∙ either (ltb u (f .w) && ltb v (f .h))
       where
         either : (b : Bool) → cond {A = ℕ} b 0 0 ≡ 0
         either true = refl
         either false = refl
+
     zeros : dressed (s .depth) (fresh c px) (outline c f) ≡ new-layer (s .depth) c (f .x) (f .y) (f .w) (f .h)
     zeros = λ i. record { client = c; x = f .x; y = f .y; pixels = record { width = f .w; height = f .h; depth = s .depth; at = λ u v. nothing u v i } }

@@ -83,7 +83,7 @@ opens s m m₁ s′ m′ p q t t′ t″ c f b can a others own st bl re =
     let stowed : Stowed s p t′ (on-screen (p .screen) (frame-in q c)) m m₁ = subst (λ (g : Frame). Stowed s p t′ (on-screen (p .screen) g) m m₁) (sym own) st in
     let zeros : s′ ≡ painted s (on-screen (p .screen) (frame-in q c)) (λ _ _. 0) = re ∙ filled-zero s f ∙ ap₂ (λ (z : Size) (g : Frame). painted s (on-screen z g) (λ _ _. 0)) (sym (b .fitting .sized)) (sym own) in
     let top : (x y : ℕ) → on-screen (p .screen) (frame-in q c) x y ≡ true → topmost (layers-in q) (pos x) (pos y) ≡ Some (outline c (frame-in q c)) =
-      subst (λ (g : Frame). (x y : ℕ) → on-screen (p .screen) g x y ≡ true → topmost (layers-in q) (pos x) (pos y) ≡ Some (outline c g)) (sym own) (opened-topmost p q c f (a .screen) (a .layers)) in
+    subst (λ (g : Frame). (x y : ℕ) → on-screen (p .screen) g x y ≡ true → topmost (layers-in q) (pos x) (pos y) ≡ Some (outline c g)) (sym own) (opened-topmost p q c f (a .screen) (a .layers)) in
     let stays : (d : ℕ) → has d (listed q) ≡ true → eqb d c ≡ false → Stays p q t′ d = λ d h n. stays-still p q t′ d (known d h n) (others d (eqb-false d c n)) in
     outcome s m s′ m′ p q t t′ t″ b (fresh c px) _
     (opened p q t t′ t″ c px s m m₁ m′ s′ small holds (b .slots) work stowed bl zeros is top stays)
@@ -114,7 +114,7 @@ moving-laws = record {
       through s m s′ m′ p q t t′ t″ b (λ i j. on-screen (p .screen) (frame-in p c) i j || on-screen (p .screen) (frame-in q c) i j) _
       (moved-same-off p q c (a .screen) h x y (a .layers) (a .clients c ∙ h))
       (λ d i. ⊎-elim (λ (e : eqb d c ≡ true).
-        subst (Stays p q t′) (sym (eqb-true d c e)) (stays-moved p q t′ c h (a .clients c ∙ h) (ap (λ (g : Frame). g .w) own) (ap (λ (g : Frame). g .h) own) all))
+      subst (Stays p q t′) (sym (eqb-true d c e)) (stays-moved p q t′ c h (a .clients c ∙ h) (ap (λ (g : Frame). g .w) own) (ap (λ (g : Frame). g .h) own) all))
       (λ (e : eqb d c ≡ false). stays-still p q t′ d (sym (a .clients d) ∙ i) (f d (eqb-false d c e))) (cases-bool (eqb d c)))
       (stowed-join s p t′ (on-screen (p .screen) (frame-in p c)) (on-screen (p .screen) (frame-in q c)) m m₁ m′ st st′)
       (re′ ∙ ap (repainted m′ q t′ (on-screen (q .screen) (frame-in q c))) re ∙ repainted-join m′ q t′ (on-screen (q .screen) (frame-in p c)) (on-screen (q .screen) (frame-in q c)) s

@@ -151,7 +151,7 @@ one-place t width c u v c′ u′ v′ r r′ k ex ey =
     let b = sixteen (s / n) (s′ / n) (v % 16) (v′ % 16) (below-16 v) (below-16 v′) ey in
     let e : s ≡ s′ = sym (div-add-mod s n) ∙ ap₂ (λ q r. n * q + r) (b .0) (a .0) ∙ div-add-mod s′ n in
     let same = t .apart (patch-at c (u / 16) (v / 16)) (patch-at c′ (u′ / 16) (v′ / 16))
-      (record { one = real-patch c u v r; other = real-patch c′ u′ v′ r′; taken = ltb-true _ _ k; same = e }) in
+    (record { one = real-patch c u v r; other = real-patch c′ u′ v′ r′; taken = ltb-true _ _ k; same = e }) in
     let q = same-patch c (u / 16) (v / 16) c′ (u′ / 16) (v′ / 16) (omega arith) (omega arith) (omega arith) (omega arith) same in
     let q0 = q .0 in let q1 = q .1 in let q2 = q .2 in let a1 = a .1 in let b1 = b .1 in
     (q0, omega arith, omega arith)

@@ -93,6 +93,7 @@ screen-shows s s′ m m′ p q t″ px px′ holds size fit bare outside =
   where
     left : sizes (screen-after s (desk-with s m p px) (desk-with s m q px′)) ≡ sizes s
     left = screen-sizes s (desk-with s m p px) (desk-with s m q px′)
+
     place : (x y : ℕ) (b : Bool) → inside (sizes s) (pos x) (pos y) ≡ b → (o : Option Layer) → topmost (layers-in q) (pos x) (pos y) ≡ o
         → s′ .at x y ≡ cond (inside (sizes s) (pos x) (pos y) && (covered (layers-with (s .depth) p px (listed p)) (pos x) (pos y) || covered (layers-with (s .depth) q px′ (listed q)) (pos x) (pos y)))
         (shown (layers-with (s .depth) q px′ (listed q)) (pos x) (pos y)) (s .at x y)
@@ -125,7 +126,6 @@ desk-same s s′ m m′ q px es em = λ i. record { size = es i; slots = slots-o
 
 module _ (p q : Plan) (t t′ t″ : Slots) (at : ℕ → ℕ → Bool) (px : Pixels) (s m m′ : Picture)
     (small : Small s) (holds : Holds s m p t px) (slots : Slotted p q t t′ t″) (work : Worked p q at) (stowed : Stowed s p t′ at m m′) where
-
   -- A pixel whose patch has a slot is in the store, if it was obscured or shows at a place worked on.
   pub whole : (d u v : ℕ) → has d (listed p) ≡ true → u < frame-in p d .w → v < frame-in p d .h → in-store t′ d u v ≡ true
       → (seen p d u v ≡ true → at (place-x p d u) (place-y p d v) ≡ true)
@@ -139,14 +139,15 @@ module _ (p q : Plan) (t t′ t″ : Slots) (at : ℕ → ℕ → Bool) (px : Pi
           let z = seen-shows p d u v h hu hv e in
           let c = stowed .copied x y _ _ (w e) (shows-behind (m .width) p t′ x y d u v (z .shows) ∙ cond-true _ (Kept (store-x (m .width) t′ d u v) (store-y (m .width) t′ d u v)) Alone k) in
           ap (λ n. n % 2 ^ s .depth) c ∙ mod-eq-of-lt (small x y) ∙ sym (held-seen s m p t d u v e) ∙ holds d h u v hu hv
+
       off : seen p d u v ≡ false → m′ .at (store-x (m .width) t′ d u v) (store-y (m .width) t′ d u v) % 2 ^ s .depth ≡ px d u v
       off e =
           let r = real p d u v h hu hv in
           let n : ℕ = patch-at d (u / 16) (v / 16) in
           let had : has-slot t n ≡ true = slots .fits n (real-patch d u v r) ∙ unseen-hidden p d u v h hu hv e in
           let c = stowed .others (store-x (m .width) t′ d u v) (store-y (m .width) t′ d u v) (λ x y i b.
-            let z = keeps-pixel (m .width) p t′ x y _ _ d u v (behind-keeps (m .width) p t′ x y _ _ b) r refl refl in
-            both-ways (seen p d u v) e (shows-seen p x y d u v z (work .on x y i))) in
+          let z = keeps-pixel (m .width) p t′ x y _ _ d u v (behind-keeps (m .width) p t′ x y _ _ b) r refl refl in
+          both-ways (seen p d u v) e (shows-seen p x y d u v z (work .on x y i))) in
           ap (λ n. n % 2 ^ s .depth) (c ∙ same-place (m .width) t t′ m d u v (slots .kept n (real-patch d u v r) had)) ∙ sym (held-unseen s m p t d u v e) ∙ holds d h u v hu hv
 
   -- A pixel that shows before, and after is obscured or shows at a place worked on, shows before at a place worked on.
@@ -190,11 +191,14 @@ module _ (p q : Plan) (t t′ t″ : Slots) (at : ℕ → ℕ → Bool) (px : Pi
         where
           z : Seen-at q d u v
           z = seen-shows q d u v h hu hv e
+
           there : (b : Bool) → in-store t′ d u v ≡ b → behind (m .width) q t′ (place-x q d u) (place-y q d v) ≡ cond b (Kept (store-x (m .width) t′ d u v) (store-y (m .width) t′ d u v)) Alone
           there b k = shows-behind (m .width) q t′ (place-x q d u) (place-y q d v) d u v (seen-shows q d u v h hu hv e .shows) ∙ ap (λ c. cond c (Kept (store-x (m .width) t′ d u v) (store-y (m .width) t′ d u v)) Alone) k
+
           by : (c : Backing) → behind (m .width) q t′ (place-x q d u) (place-y q d v) ≡ c
               → s′ .at (place-x q d u) (place-y q d v) ≡ cond (changes c) (taken (s .depth) m′ c) (s .at (place-x q d u) (place-y q d v))
           by c k = painted-there (place-x q d u) (place-y q d v) ∙ ap₂ (λ b c. cond (b && changes c) (taken (s .depth) m′ c) (s .at (place-x q d u) (place-y q d v))) w k
+
           go : (b : Bool) → in-store t′ d u v ≡ b → s′ .at (place-x q d u) (place-y q d v) ≡ px d u v
           go true k = by (Kept (store-x (m .width) t′ d u v) (store-y (m .width) t′ d u v)) (there true k) ∙ in-whole k (λ _. w)
           go false k = by Alone (there false k) ∙ alone k (cases-bool (seen p d u v))
@@ -251,6 +255,7 @@ module _ (p q : Plan) (t t′ t″ : Slots) (at : ℕ → ℕ → Bool) (px : Pi
         never : (x y : ℕ) → inside (sizes s) (pos x) (pos y) ≡ false → (b : Bool) → at x y ≡ b → b ≡ false
         never x y e true w = absurd (both-ways (inside (p .screen) (pos x) (pos y)) (ap (λ z. inside z (pos x) (pos y)) fit ∙ e) (work .on x y w))
         never x y e false w = refl
+
         bare : (x y : ℕ) → inside (sizes s) (pos x) (pos y) ≡ true → covered (layers-in q) (pos x) (pos y) ≡ false → (b : Bool) → at x y ≡ b
             → s′ .at x y ≡ cond (covered (layers-in p) (pos x) (pos y)) 0 (s .at x y)
         bare x y e n true w =

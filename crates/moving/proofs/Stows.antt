@@ -75,6 +75,7 @@ module _ (s : Picture) (p : Plan) (t : Slots) where
     where
       early : (x y : ℕ) → behind (m .width) p t x y ≡ behind (m′ .width) p t x y
       early x y = ap (λ z. behind (z .width) p t x y) (sym (d .size))
+
       late : (x y a b : ℕ) → (f x y || g x y) ≡ true → behind (m .width) p t x y ≡ Kept a b → (c : Bool) → g x y ≡ c → m″ .at a b ≡ s .at x y
       late x y a b h k true c = e .copied x y a b c (sym (early x y) ∙ k)
       late x y a b h k false c =

@@ -92,6 +92,7 @@ module _ (c : ℕ) where
           by ih false k =
               let other : eqb (m .client) d ≡ false = grind (arith, tells) in
               λ h. ih (ap (λ b. cond b (hidden screen (without c ms) m i j) (hidden-in screen (without c ms) d i j)) (sym other) ∙ h)
+
       go : Implies (hidden-in screen (without c ls) d i j) (hidden-in screen ls d i j) → (a : Bool) → eqb c (l .client) ≡ a → (b : Bool) → eqb (l .client) d ≡ b
           → Implies (hidden-in screen (cond (not a) (l ∷ without c ls) (without c ls)) d i j) (cond b (hidden screen ls l i j) (hidden-in screen ls d i j))
       go ih true e true k = λ h. absurd (false≢true (none ls (let z : eqb c d ≡ true = grind (arith, tells) in z) h))

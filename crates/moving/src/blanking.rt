@@ -15,7 +15,14 @@ fn blank_slot<T: Bitmap>(store: &mut T, k: u16)
     ensures blanks { λ _. ⌜ (k < (T·Bitmap .picture (now (store .entry)) .width / 16) * (T·Bitmap .picture (now (store .entry)) .height / 16) → T·Bitmap .picture (now (store .exit)) ≡ painted (T·Bitmap .picture (now (store .entry))) (in-slot (T·Bitmap .picture (now (store .entry)) .width) k) (λ _ _. 0)) ⌝ }
 {
     let across = (store.size().width / 16).max(1);
-    let _ = store.fill(3, 0, signed(16 * (k % across)), signed(16 * (k / across)), 16, 16);
+    let _ = store.fill(
+        3,
+        0,
+        signed(16 * (k % across)),
+        signed(16 * (k / across)),
+        16,
+        16,
+    );
 }
 
 /// Sets the slots of a client's patches to 0.

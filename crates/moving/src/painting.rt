@@ -29,7 +29,14 @@ fn found<T: Bitmap>(store: &T, depth: u8, backing: Backing) -> Option<u8>
 }
 
 /// Gives the place (x, y) what the store has for it, or 0 where no layer is.
-fn repaint_pixel<S: Bitmap, T: Bitmap>(screen: &mut S, store: &T, plan: &Plan, slots: &Slots, x: u16, y: u16)
+fn repaint_pixel<S: Bitmap, T: Bitmap>(
+    screen: &mut S,
+    store: &T,
+    plan: &Plan,
+    slots: &Slots,
+    x: u16,
+    y: u16,
+)
     requires across { ⌜ x < S·Bitmap .picture (now screen) .width ⌝ }
     requires down { ⌜ y < S·Bitmap .picture (now screen) .height ⌝ }
     ensures keeps { λ _. ⌜ S·Bitmap .keeps (now (screen .entry)) (now (screen .exit)) ⌝ }
@@ -44,7 +51,14 @@ fn repaint_pixel<S: Bitmap, T: Bitmap>(screen: &mut S, store: &T, plan: &Plan, s
 }
 
 /// Does so with the places of a row in some columns.
-fn repaint_row<S: Bitmap, T: Bitmap>(screen: &mut S, store: &T, plan: &Plan, slots: &Slots, columns: Span, y: u16)
+fn repaint_row<S: Bitmap, T: Bitmap>(
+    screen: &mut S,
+    store: &T,
+    plan: &Plan,
+    slots: &Slots,
+    columns: Span,
+    y: u16,
+)
     requires across { ⌜ columns .first + columns .len ≤ S·Bitmap .picture (now screen) .width ⌝ }
     requires down { ⌜ y < S·Bitmap .picture (now screen) .height ⌝ }
     ensures keeps { λ _. ⌜ S·Bitmap .keeps (now (screen .entry)) (now (screen .exit)) ⌝ }
@@ -58,7 +72,13 @@ fn repaint_row<S: Bitmap, T: Bitmap>(screen: &mut S, store: &T, plan: &Plan, slo
 
 /// Repaints the places of an area: each where no layer is gets 0, and each where the topmost layer's patch has a slot gets the pixel
 /// that the store has for it.
-pub fn repaint<S: Bitmap, T: Bitmap>(screen: &mut S, store: &T, plan: &Plan, slots: &Slots, area: Frame)
+pub fn repaint<S: Bitmap, T: Bitmap>(
+    screen: &mut S,
+    store: &T,
+    plan: &Plan,
+    slots: &Slots,
+    area: Frame,
+)
     ensures keeps { λ _. ⌜ S·Bitmap .keeps (now (screen .entry)) (now (screen .exit)) ⌝ }
     ensures size { λ _. ⌜ sizes (S·Bitmap .picture (now (screen .exit))) ≡ sizes (S·Bitmap .picture (now (screen .entry))) ⌝ }
     ensures paints { λ _. ⌜ (Fitting (S·Bitmap .picture (now (screen .entry))) (T·Bitmap .picture (now (store .entry))) (now (plan .entry)) (now (slots .entry)) → S·Bitmap .picture (now (screen .exit)) ≡ repainted (T·Bitmap .picture (now (store .entry))) (now (plan .entry)) (now (slots .entry)) (on-screen (now (plan .entry) .screen) area) (S·Bitmap .picture (now (screen .entry)))) ⌝ }

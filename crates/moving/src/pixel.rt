@@ -9,22 +9,14 @@ use raster::Bitmap;
 pub(crate) fn signed(a: u16) -> i16
     ensures { λ r. ⌜ (a < 32768 → r ≡ pos a) ⌝ }
 {
-    if a < 32768 {
-        a as i16
-    } else {
-        -1
-    }
+    if a < 32768 { a as i16 } else { -1 }
 }
 
 /// A value modulo 2^depth.
 pub(crate) fn masked(v: u8, depth: u8) -> u8
     ensures { λ r. ⌜ r ≡ v % 2 ^ depth ⌝ }
 {
-    if depth < 8 {
-        v % (1 << depth)
-    } else {
-        v
-    }
+    if depth < 8 { v % (1 << depth) } else { v }
 }
 
 /// Sets a pixel.

@@ -14,7 +14,14 @@ use raster::Bitmap;
 use raster::Span;
 
 /// Copies the pixel that shows at (x, y) to its place in the store, if it has one.
-fn stow_pixel<S: Bitmap, T: Bitmap>(screen: &S, store: &mut T, plan: &Plan, slots: &Slots, x: u16, y: u16)
+fn stow_pixel<S: Bitmap, T: Bitmap>(
+    screen: &S,
+    store: &mut T,
+    plan: &Plan,
+    slots: &Slots,
+    x: u16,
+    y: u16,
+)
     requires across { ⌜ x < S·Bitmap .picture (now screen) .width ⌝ }
     requires down { ⌜ y < S·Bitmap .picture (now screen) .height ⌝ }
     ensures keeps { λ _. ⌜ T·Bitmap .keeps (now (store .entry)) (now (store .exit)) ⌝ }
@@ -28,7 +35,14 @@ fn stow_pixel<S: Bitmap, T: Bitmap>(screen: &S, store: &mut T, plan: &Plan, slot
 }
 
 /// Does so at the places of a row in some columns.
-fn stow_row<S: Bitmap, T: Bitmap>(screen: &S, store: &mut T, plan: &Plan, slots: &Slots, columns: Span, y: u16)
+fn stow_row<S: Bitmap, T: Bitmap>(
+    screen: &S,
+    store: &mut T,
+    plan: &Plan,
+    slots: &Slots,
+    columns: Span,
+    y: u16,
+)
     requires across { ⌜ columns .first + columns .len ≤ S·Bitmap .picture (now screen) .width ⌝ }
     requires down { ⌜ y < S·Bitmap .picture (now screen) .height ⌝ }
     ensures keeps { λ _. ⌜ T·Bitmap .keeps (now (store .entry)) (now (store .exit)) ⌝ }
@@ -41,7 +55,13 @@ fn stow_row<S: Bitmap, T: Bitmap>(screen: &S, store: &mut T, plan: &Plan, slots:
 }
 
 /// Copies what shows at the places of an area to the store: each pixel that is topmost there and whose patch has a slot, to its place in that.
-pub fn stow<S: Bitmap, T: Bitmap>(screen: &S, store: &mut T, plan: &Plan, slots: &Slots, area: Frame)
+pub fn stow<S: Bitmap, T: Bitmap>(
+    screen: &S,
+    store: &mut T,
+    plan: &Plan,
+    slots: &Slots,
+    area: Frame,
+)
     ensures keeps { λ _. ⌜ T·Bitmap .keeps (now (store .entry)) (now (store .exit)) ⌝ }
     ensures size { λ _. ⌜ sizes (T·Bitmap .picture (now (store .exit))) ≡ sizes (T·Bitmap .picture (now (store .entry))) ⌝ }
     ensures stows { λ _. ⌜ (Fitting (S·Bitmap .picture (now (screen .entry))) (T·Bitmap .picture (now (store .entry))) (now (plan .entry)) (now (slots .entry)) → Stowed (S·Bitmap .picture (now (screen .entry))) (now (plan .entry)) (now (slots .entry)) (on-screen (now (plan .entry) .screen) area) (T·Bitmap .picture (now (store .entry))) (T·Bitmap .picture (now (store .exit)))) ⌝ }

@@ -22,7 +22,7 @@ kept-pixel-requires c κs =
     let fx : SFits w16 (c .frame-frame .result .x) = search needs in
     let fy : SFits w16 (c .frame-frame .result .y) = search needs in
     let f = found (a .plan .now) (a .x) (a .y) (c .in-Some .d) (c .offset .result) (c .offset-in-Some .result) _ _ (c .frame-frame .result) _ _ (narrow (a .x) (c .pre .across)) (narrow (a .y) (c .pre .down))
-      (c .in-Some .ensures tt) (c .frame-frame .ensures) (as-was _ fx) (as-was _ fy) (c .offset .ensures) (c .offset-in-Some .ensures) in
+    (c .in-Some .ensures tt) (c .frame-frame .ensures) (as-was _ fx) (as-was _ fy) (c .offset .ensures) (c .offset-in-Some .ensures) in
     record { client = f .client; column = f .column; row = f .row }
 
 pub returns-in-Some : need.returns-in-Some
@@ -31,7 +31,7 @@ returns-in-Some c h =
     let fx : SFits w16 (c .frame-frame .result .x) = search needs in
     let fy : SFits w16 (c .frame-frame .result .y) = search needs in
     let f = found (a .plan .now) (a .x) (a .y) (c .in-Some .d) (c .offset .result) (c .offset-in-Some .result) _ _ (c .frame-frame .result) _ _ (narrow (a .x) (c .pre .across)) (narrow (a .y) (c .pre .down))
-      (c .in-Some .ensures tt) (c .frame-frame .ensures) (as-was _ fx) (as-was _ fy) (c .offset .ensures) (c .offset-in-Some .ensures) in
+    (c .in-Some .ensures tt) (c .frame-frame .ensures) (as-was _ fx) (as-was _ fy) (c .offset .ensures) (c .offset-in-Some .ensures) in
     c .kept-pixel .ensures h ∙ f .is (a .width) (a .slots .now)
 
 pub returns-in-None : need.returns-in-None

@@ -12,7 +12,7 @@ returns-in-Some g c =
       keeps = c .put .ensures .keeps;
       size = c .put .ensures .size;
       paints = λ f. paint-some s m (a .plan .now) (a .slots .now) (a .x) (a .y) _ _ f (ap (λ (z : Size). z .width) (c .size .ensures)) (ap (λ (z : Size). z .depth) (c .size-depth .ensures)) (c .behind-backing .result) (c .behind-backing .ensures) (c .found .result) (c .found .ensures)
-        (c .in-Some .v) _ (c .in-Some .is) (c .pre .across) (c .pre .down) (c .put .ensures .after);
+          (c .in-Some .v) _ (c .in-Some .is) (c .pre .across) (c .pre .down) (c .put .ensures .after);
     }
 
 pub returns-in-rest : need.returns-in-rest
@@ -24,5 +24,5 @@ returns-in-rest g c =
       keeps = g .S·Bitmap·met .same (a .screen .now);
       size = refl;
       paints = λ f. paint-none s m (a .plan .now) (a .slots .now) (a .x) (a .y) _ _ f (ap (λ (z : Size). z .width) (c .size .ensures)) (ap (λ (z : Size). z .depth) (c .size-depth .ensures)) (c .behind-backing .result) (c .behind-backing .ensures) (c .found .result) (c .found .ensures)
-        (none-is _ (c .in-rest .not-Some));
+          (none-is _ (c .in-rest .not-Some));
     }
