@@ -1,16 +1,15 @@
 //! Repainting: screen places get what the store has for them.
 ghost use mathlib.Core.Path.{_≡_};
 ghost use mathlib.Core.Bool.{cond};
-ghost use Prim.Native.Nat.{ℕ, _+_, _<_, _≤_};
+ghost use Prim.Native.Nat.{_+_, _<_, _≤_};
 ghost use Rattle.std.specs.declared.option.Option.the-variants.{Some, None};
 ghost use Rattle.raster.specs.Picture.{sizes};
-ghost use Rattle.moving.specs.declared.backing.Backing.the-variants.{Kept};
 ghost use Rattle.moving.specs.Phases.{Fitting, on-screen, just, in-row, changes, taken, repainted};
 use crate::backing::Backing;
 use crate::backing::behind;
-use crate::pixel::get;
 use crate::pixel::masked;
-use crate::pixel::put;
+use hold::pixel;
+use hold::set_pixel;
 use plan::Frame;
 use plan::Plan;
 use plan::Slots;
@@ -19,12 +18,12 @@ use raster::Span;
 
 /// What a place gets of a store, if it is to change.
 fn found<T: Bitmap>(store: &T, depth: u8, backing: Backing) -> Option<u8>
-    ensures { λ r. ⌜ (((a b : ℕ) → backing ≡ Kept a b → (a < T·Bitmap .picture (now (store .entry)) .width) × (b < T·Bitmap .picture (now (store .entry)) .height)) → r ≡ cond (changes backing) (Some (taken depth (T·Bitmap .picture (now (store .entry))) backing)) None) ⌝ }
+    ensures { λ r. ⌜ r ≡ cond (changes backing) (Some (taken depth (T·Bitmap .picture (now (store .entry))) backing)) None ⌝ }
 {
     match backing {
         Backing::Bare => Some(0),
         Backing::Alone => None,
-        Backing::Kept(a, b) => Some(masked(get(store, a, b), depth)),
+        Backing::Kept(a, b) => Some(masked(pixel(store, a, b), depth)),
     }
 }
 
@@ -46,7 +45,7 @@ fn repaint_pixel<S: Bitmap, T: Bitmap>(
     let depth = screen.size().depth;
     let backing = behind(store.size().width, plan, slots, x, y);
     if let Some(v) = found(store, depth, backing) {
-        put(screen, x, y, v);
+        set_pixel(screen, x, y, v);
     }
 }
 

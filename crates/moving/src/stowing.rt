@@ -5,8 +5,8 @@ ghost use Rattle.raster.specs.Picture.{sizes};
 ghost use Rattle.moving.specs.Phases.{Fitting, on-screen, just, in-row, Stowed};
 use crate::backing::Backing;
 use crate::backing::behind;
-use crate::pixel::get;
-use crate::pixel::put;
+use hold::pixel;
+use hold::set_pixel;
 use plan::Frame;
 use plan::Plan;
 use plan::Slots;
@@ -30,7 +30,7 @@ fn stow_pixel<S: Bitmap, T: Bitmap>(
 {
     let width = store.size().width;
     if let Backing::Kept(a, b) = behind(width, plan, slots, x, y) {
-        put(store, a, b, get(screen, x, y));
+        set_pixel(store, a, b, pixel(screen, x, y));
     }
 }
 

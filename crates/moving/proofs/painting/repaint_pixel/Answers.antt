@@ -9,10 +9,10 @@ returns-in-Some g c =
     let s = g .S·Bitmap .picture (a .screen .now) in
     let m = g .T·Bitmap .picture (a .store .now) in
     record {
-      keeps = c .put .ensures .keeps;
-      size = c .put .ensures .size;
+      keeps = c .set-pixel .ensures .rest;
+      size = c .set-pixel .ensures .size;
       paints = λ f. paint-some s m (a .plan .now) (a .slots .now) (a .x) (a .y) _ _ f (ap (λ (z : Size). z .width) (c .size .ensures)) (ap (λ (z : Size). z .depth) (c .size-depth .ensures)) (c .behind-backing .result) (c .behind-backing .ensures) (c .found .result) (c .found .ensures)
-          (c .in-Some .v) _ (c .in-Some .is) (c .pre .across) (c .pre .down) (c .put .ensures .after);
+          (c .in-Some .v) _ (c .in-Some .is) (c .pre .across) (c .pre .down) (c .set-pixel .ensures .after);
     }
 
 pub returns-in-rest : need.returns-in-rest
