@@ -1,9 +1,9 @@
 -- The places of an area, turn by turn.
 use mathlib.Core.Path.{_≡_, refl, sym, ap, ap₂, subst, _∙_}
-use mathlib.Core.Bool.{Bool, true, false, _&&_, _||_}
-use Prim.Native.Nat.{ℕ, _+_, _≤_, _<_}
+use mathlib.Core.Bool.{Bool, true, false, cond, _&&_, _||_}
+use Prim.Native.Nat.{ℕ, _+_, _*_, _/_, _≤_}
 use native.Mathlib.Omega.{arith}
-use lib.Dec.{eqb, ltb, leb}
+use lib.Dec.{eqb, ltb}
 use lib.IntN.{ℤ, pos}
 use Rattle.std.proofs.shelf.Ways.{tells}
 use Rattle.std.proofs.shelf.Signed.{ints}
@@ -20,7 +20,7 @@ use Rattle.plan.specs.declared.frame.Frame.{Frame}
 use Rattle.plan.specs.declared.plan.Plan.{Plan}
 use Rattle.plan.specs.declared.slots.Slots.{Slots}
 use Rattle.moving.specs.Phases.{Fitting, on-screen, just, in-row, Stowed, repainted}
-use Rattle.moving.proofs.Stows.{stowed-none, stowed-as, stowed-join, repainted-none, repainted-as, repainted-join}
+use Rattle.moving.proofs.Stows.{stowed-as, stowed-join, repainted-as, repainted-join}
 
 -- The first i places of a row, and all columns of the first j rows.
 abbrev pub row-so-far : (columns : Span) (y i : ℕ) → ℕ → ℕ → Bool
@@ -68,17 +68,17 @@ own-axis d n size x = let e : blt.behind d d x ≡ pos x = omega (arith, ints) i
     twice a true = refl
     twice a false = refl
 
+pub and-swap : (a b c d : Bool) → ((a && b) && (c && d)) ≡ ((a && c) && (b && d))
+and-swap true true c d = refl
+and-swap true false true d = refl
+and-swap true false false d = refl
+and-swap false b c d = refl
+
 pub clipped-area : (size : Size) (f : Frame) (columns rows : Span) → Clipped (f .x) (f .x) (f .w) (size .width) (size .width) columns → Clipped (f .y) (f .y) (f .h) (size .height) (size .height) rows
     → (a b : ℕ) → on-screen size f a b ≡ rows-so-far columns rows (rows .len) a b
 clipped-area size f columns rows cc cr a b =
-    swap (holds (f .x) (f .w) (pos a)) (holds (f .y) (f .h) (pos b)) (holds (pos 0) (size .width) (pos a)) (holds (pos 0) (size .height) (pos b))
+    and-swap (holds (f .x) (f .w) (pos a)) (holds (f .y) (f .h) (pos b)) (holds (pos 0) (size .width) (pos a)) (holds (pos 0) (size .height) (pos b))
     ∙ ap₂ _&&_ (sym (own-axis (f .x) (f .w) (size .width) a) ∙ cc .hit a) (sym (own-axis (f .y) (f .h) (size .height) b) ∙ cr .hit b)
-  where
-    swap : (a b c d : Bool) → ((a && b) && (c && d)) ≡ ((a && c) && (b && d))
-    swap true true c d = refl
-    swap true false true d = refl
-    swap true false false d = refl
-    swap false b c d = refl
 
 -- ── One more turn of stowing ──
 
@@ -103,3 +103,15 @@ area-all screen size f zx zy columns rows j ex ey es ej hc hr a b =
     ap (λ z. on-screen z f a b) es
     ∙ clipped-area size f columns rows (subst (λ (z : ℤ). Clipped z z (f .w) (size .width) (size .width) columns) ex hc) (subst (λ (z : ℤ). Clipped z z (f .h) (size .height) (size .height) rows) ey hr) a b
     ∙ ap (λ n. rows-so-far columns rows n a b) (sym ej)
+
+-- The same with another arrangement on the screen, and another table of the same slots.
+pub fitting-with : (s m : Picture) (p q : Plan) (t t′ : Slots) → q .screen ≡ p .screen → t′ .places ≡ t .places → Fitting s m p t → Fitting s m q t′
+fitting-with s m p q t t′ es et f = record { sized = es ∙ f .sized; places = et ∙ f .places }
+
+-- A table has no more slots than the store has squares.
+pub fitting-few : (s m : Picture) (p : Plan) (t : Slots) → Fitting s m p t → t .places ≤ (m .width / 16) * (m .height / 16)
+fitting-few s m p t f = subst (λ (n : ℕ). n ≤ (m .width / 16) * (m .height / 16)) (sym (f .places)) (go (ltb (m .depth) (s .depth)) ((m .width / 16) * (m .height / 16)))
+  where
+    go : (b : Bool) (n : ℕ) → cond b 0 n ≤ n
+    go true n = omega arith
+    go false n = omega arith

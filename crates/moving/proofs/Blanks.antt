@@ -1,11 +1,11 @@
 -- Filling with 0, and blanking slot by slot.
 use mathlib.Core.Path.{_≡_, refl, sym, ap, ap₂, subst, _∙_}
-use mathlib.Core.Bool.{Bool, true, false, cond, _&&_, _||_}
+use mathlib.Core.Bool.{Bool, true, false, cond, _&&_}
 use mathlib.Core.Logic.{⊎-elim}
-use Prim.Native.Nat.{ℕ, zero, suc, _+_, _-_, _*_, _/_, _%_, _^_, _<_, _≤_}
+use Prim.Native.Nat.{ℕ, _+_, _-_, _*_, _/_, _%_, _^_, _<_, _≤_}
 use native.Mathlib.Omega.{arith}
 use native.Mathlib.Nat.{mod-lt, div-lt-iff-lt-mul, mul-comm}
-use lib.Dec.{eqb, ltb, leb}
+use lib.Dec.{ltb}
 use lib.IntN.{ℤ, pos}
 use Rattle.std.proofs.shelf.Bits.{pow-pos}
 use Rattle.std.proofs.shelf.Ways.{tells}
@@ -20,11 +20,13 @@ use Rattle.raster.specs.Calls.{fill-with, fill-transfer, bitmap-after}
 use Rattle.raster.specs.declared.size.Size.{Size}
 use Rattle.raster.proofs.Accepts.{fill-accepted, after-accepted}
 use Rattle.raster.proofs.Lawful.{bitmap-laws}
-use Rattle.raster.proofs.Paints.{painted-at, painted-sizes, painted-same}
+use Rattle.raster.proofs.Paints.{painted-at, painted-same}
 use Rattle.plan.specs.declared.frame.Frame.{Frame}
 use Rattle.plan.specs.declared.slots.Slots.{Slots}
 use Rattle.plan.specs.Plans.{patch-at, slot-of, has-slot}
 use Rattle.hold.specs.Spots.{slot-x, slot-y, own-slot}
+use Rattle.hold.proofs.Places.{some-across}
+use Rattle.moving.proofs.Areas.{and-swap}
 use Rattle.moving.specs.Phases.{on-screen, in-slot, store-x, store-y, in-store, Blanked}
 
 -- A rectangle filled with 0, by the rule that takes the source.
@@ -50,14 +52,10 @@ pub square : (m : Picture) (k : ℕ) → k < (m .width / 16) * (m .height / 16) 
 square m k h =
     let n : ℕ = m .width / 16 in
     let j : ℕ = m .height / 16 in
-    let some : 0 < n = wide n j k h in
+    let some : 0 < n = some-across k n j h in
     let left : k % n < n = mod-lt k some in
     let up : k / n < j = div-lt-iff-lt-mul some .1 (rw (mul-comm n j) at h) in
     record { wide = some; across = omega arith; down = omega arith }
-  where
-    wide : (n j k : ℕ) → k < n * j → 0 < n
-    wide zero j k h = absurd (omega arith)
-    wide (suc n) j k h = omega arith
 
 pub slot-filled : (m : Picture) (k : ℕ) (zx zy : ℤ) → k < (m .width / 16) * (m .height / 16) → zx ≡ pos (slot-x (m .width) k) → zy ≡ pos (slot-y (m .width) k)
     → bitmap-after m (fill-with 3 0 zx zy 16 16) ≡ painted m (in-slot (m .width) k) (λ _ _. 0)
@@ -66,7 +64,7 @@ slot-filled m k zx zy h ex ey =
     filled-zero m (record { x = zx; y = zy; w = 16; h = 16 })
     ∙ painted-same m _ (in-slot (m .width) k) (λ _ _. 0) (λ _ _. 0)
     (λ x y.
-    swap (holds zx 16 (pos x)) (holds zy 16 (pos y)) (holds (pos 0) (m .width) (pos x)) (holds (pos 0) (m .height) (pos y))
+    and-swap (holds zx 16 (pos x)) (holds zy 16 (pos y)) (holds (pos 0) (m .width) (pos x)) (holds (pos 0) (m .height) (pos y))
     ∙ ap₂ _&&_ (axis zx (slot-x (m .width) k) (m .width) x ex (q .across)) (axis zy (slot-y (m .width) k) (m .height) y ey (q .down)))
     (λ x y t. refl)
   where
@@ -75,11 +73,6 @@ slot-filled m k zx zy h ex ey =
       where
         plain : (first size x : ℕ) → first + 16 ≤ size → (holds (pos first) 16 (pos x) && holds (pos 0) size (pos x)) ≡ between first 16 x
         plain first size x h = grind (arith, ints, tells)
-    swap : (a b c d : Bool) → ((a && b) && (c && d)) ≡ ((a && c) && (b && d))
-    swap true true c d = refl
-    swap true false true d = refl
-    swap true false false d = refl
-    swap false b c d = refl
 
 -- ── Patch by patch ──
 
@@ -128,8 +121,8 @@ module _ (t : Slots) (c : ℕ) (m : Picture) where
     pub blank-skip : has-slot t (300 * c + i) ≡ false → Blanking t c (i + 1) m m′
     blank-skip n = record {
       cleared = λ u v hu hv l k. ⊎-elim (λ (h : patch-within u v < i). d .cleared u v hu hv h k) (λ (h : i ≤ patch-within u v).
-        let e : patch-within u v ≡ i = omega arith in
-        absurd (both-ways (in-store t c u v) (ap (has-slot t) (own-patch i u v e) ∙ n) k)) (cases-lt (patch-within u v) i);
+          let e : patch-within u v ≡ i = omega arith in
+          absurd (both-ways (in-store t c u v) (ap (has-slot t) (own-patch i u v e) ∙ n) k)) (cases-lt (patch-within u v) i);
       others = λ a b h. d .others a b (λ u v hu hv l k ea eb. h u v hu hv (omega arith) k ea eb);
     }
 
@@ -137,26 +130,30 @@ module _ (t : Slots) (c : ℕ) (m : Picture) where
     pub blank-one : (m″ : Picture) → has-slot t (300 * c + i) ≡ true → sizes m′ ≡ sizes m → m″ ≡ painted m′ (in-slot (m′ .width) (slot-of t (300 * c + i))) (λ _ _. 0) → Blanking t c (i + 1) m m″
     blank-one m″ k ew em = record {
       cleared = λ u v hu hv l q. there (store-x (m .width) t c u v) (store-y (m .width) t c u v) ∙ ⊎-elim
-        (λ (h : patch-within u v < i). either (in-slot (m .width) (slot-of t (300 * c + i)) (store-x (m .width) t c u v) (store-y (m .width) t c u v)) _ (d .cleared u v hu hv h q))
-        (λ (h : i ≤ patch-within u v).
+          (λ (h : patch-within u v < i). either (in-slot (m .width) (slot-of t (300 * c + i)) (store-x (m .width) t c u v) (store-y (m .width) t c u v)) _ (d .cleared u v hu hv h q))
+          (λ (h : i ≤ patch-within u v).
           let e : patch-within u v ≡ i = omega arith in
           cond-true _ 0 _ (ap (λ n. in-slot (m .width) (slot-of t n) (store-x (m .width) t c u v) (store-y (m .width) t c u v)) (sym (own-patch i u v e))
           ∙ and-from _ _ (in-square (slot-x (m .width) (own-slot t c u v)) (u % 16) (mod-lt u (omega arith))) (in-square (slot-y (m .width) (own-slot t c u v)) (v % 16) (mod-lt v (omega arith))))) (cases-lt (patch-within u v) i);
       others = λ a b h. there a b ∙ ⊎-elim
-        (λ (e : in-slot (m .width) (slot-of t (300 * c + i)) a b ≡ true). absurd (inner a b h e))
-        (λ (e : in-slot (m .width) (slot-of t (300 * c + i)) a b ≡ false). cond-false _ 0 _ e ∙ d .others a b (λ u v hu hv l q ea eb. h u v hu hv (omega arith) q ea eb))
-        (cases-bool (in-slot (m .width) (slot-of t (300 * c + i)) a b));
+          (λ (e : in-slot (m .width) (slot-of t (300 * c + i)) a b ≡ true). absurd (inner a b h e))
+          (λ (e : in-slot (m .width) (slot-of t (300 * c + i)) a b ≡ false). cond-false _ 0 _ e ∙ d .others a b (λ u v hu hv l q ea eb. h u v hu hv (omega arith) q ea eb))
+          (cases-bool (in-slot (m .width) (slot-of t (300 * c + i)) a b));
     }
       where
         there : (a b : ℕ) → m″ .at a b ≡ cond (in-slot (m .width) (slot-of t (300 * c + i)) a b) 0 (m′ .at a b)
         there a b = ap (λ (n : Picture). n .at a b) em ∙ painted-at m′ _ _ a b ∙ ap (λ (z : Size). cond (in-slot (z .width) (slot-of t (300 * c + i)) a b) 0 (m′ .at a b)) ew
+
         either : (b : Bool) (n : ℕ) → n ≡ 0 → cond b 0 n ≡ 0
         either true n e = refl
         either false n e = e
+
         in-square : (first n : ℕ) → n < 16 → between first 16 (first + n) ≡ true
         in-square first n h = grind (arith, tells)
+
         parts : (first a : ℕ) → between first 16 a ≡ true → (first ≤ a) × (a < first + 16)
         parts first a e = (grind (arith, tells), grind (arith, tells))
+
         inner : (a b : ℕ) → ((u v : ℕ) → u < 320 → v < 240 → patch-within u v < i + 1 → in-store t c u v ≡ true → a ≡ store-x (m .width) t c u v → b ≡ store-y (m .width) t c u v → ⊥)
             → in-slot (m .width) (slot-of t (300 * c + i)) a b ≡ true → ⊥
         inner a b h e =

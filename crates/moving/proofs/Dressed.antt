@@ -1,26 +1,18 @@
 -- Layers with pixels, over the outlines of an arrangement.
-use mathlib.Core.Path.{_≡_, refl, sym, ap, ap₂, _∙_}
-use mathlib.Core.Bool.{Bool, true, false, cond, not, _&&_, _||_}
+use mathlib.Core.Path.{_≡_, refl, ap, ap₂, _∙_}
+use mathlib.Core.Bool.{Bool, true, false, cond, _&&_}
 use mathlib.Core.List.{List, [], _∷_, _++_}
-use Prim.Native.Nat.{ℕ, _<_}
+use Prim.Native.Nat.{ℕ}
 use lib.Dec.{eqb, ltb}
-use lib.IntN.{ℤ, pos, natAbs, _-ℤ_}
-use lib.ListN.{getD}
-use Rattle.std.proofs.shelf.Tests.{and-from, lt-ltb, cond-true, ltb-true, and-parts}
+use lib.IntN.{ℤ, pos}
+use Rattle.std.proofs.shelf.Tests.{and-from, lt-ltb, cond-true}
 use Rattle.std.specs.declared.option.Option.{Option}
 use Rattle.std.specs.declared.option.Option.the-variants.{Some, None}
-use Rattle.raster.specs.Picture.{Picture, sizes}
-use Rattle.paper.specs.Layers.{Desk, Layer, or-else, covers, covered, topmost, pixel-of, shown, keep, alter, at-corner}
-use Rattle.paper.specs.Slots.{slots-of}
-use Rattle.plan.specs.declared.frame.Frame.{Frame}
+use Rattle.paper.specs.Layers.{Layer, or-else, covers, topmost, pixel-of, shown, keep, alter, at-corner}
 use Rattle.plan.specs.declared.plan.Plan.{Plan}
-use Rattle.plan.specs.declared.slots.Slots.{Slots}
-use Rattle.plan.specs.Frames.{no-frame, has}
 use Rattle.plan.specs.Plans.{outline, outlines, listed, layers-in, frame-in}
-use Rattle.hold.specs.Held.{Pixels, layer-with, layers-with, held, Holds, paper-of}
-use Rattle.moving.specs.Phases.{from-corner}
-use Rattle.moving.specs.Moves.{desk-with}
-use Rattle.moving.proofs.Places.{Shows, place-from, same-client}
+use Rattle.hold.specs.Held.{Pixels, layer-with, layers-with}
+use Rattle.moving.proofs.Places.{Shows, place-from}
 
 -- A layer with pixels by a function of client, column and row.
 abbrev pub dressed : (depth : ℕ) → Pixels → Layer → Layer
@@ -45,10 +37,6 @@ dressed-layers depth p px [] = refl
 dressed-layers depth p px (d ∷ ds) = ap (λ ls. layer-with depth p px d ∷ ls) (dressed-layers depth p px ds)
 
 module _ (depth : ℕ) (px : Pixels) where
-  pub dress-covered : (ls : List Layer) (x y : ℤ) → covered (dress depth px ls) x y ≡ covered ls x y
-  dress-covered [] x y = refl
-  dress-covered (l ∷ ls) x y = ap (λ b. covers l x y || b) (dress-covered ls x y)
-
   abbrev dressed-if : Option Layer → Option Layer
   dressed-if (Some l) = Some (dressed depth px l)
   dressed-if None = None
@@ -87,9 +75,6 @@ module _ (depth : ℕ) (px : Pixels) where
       go false ih = ap (λ ms. dressed depth px l ∷ ms) ih
 
 module _ (depth : ℕ) (p : Plan) (px : Pixels) where
-  pub with-covered : (x y : ℤ) → covered (layers-with depth p px (listed p)) x y ≡ covered (layers-in p) x y
-  with-covered x y = ap (λ ls. covered ls x y) (dressed-layers depth p px (listed p)) ∙ dress-covered depth px (layers-in p) x y
-
   -- The pixel that shows at a place is what the layers show there.
   pub with-shown : (x y d u v : ℕ) → Shows p x y d u v → shown (layers-with depth p px (listed p)) (pos x) (pos y) ≡ px d u v
   with-shown x y d u v s =
@@ -98,40 +83,3 @@ module _ (depth : ℕ) (p : Plan) (px : Pixels) where
       ap (λ o. pixel-of o (pos x) (pos y)) e
       ∙ ap₂ (dressed depth px (outline d (frame-in p d)) .pixels .at) (place-from (frame-in p d .x) x u (s .across)) (place-from (frame-in p d .y) y v (s .down))
       ∙ cond-true _ (px d u v) 0 (and-from _ _ (lt-ltb u _ (s .column)) (lt-ltb v _ (s .row)))
-
--- ── The desk on paper that is held ──
-
-pixels-by : (depth : ℕ) (p : Plan) (px px′ : Pixels) (d : ℕ) → ((u v : ℕ) → u < frame-in p d .w → v < frame-in p d .h → px d u v ≡ px′ d u v) → layer-with depth p px d ≡ layer-with depth p px′ d
-pixels-by depth p px px′ d h = λ i. record {
-  client = d;
-  x = frame-in p d .x;
-  y = frame-in p d .y;
-  pixels = record {
-    width = frame-in p d .w;
-    height = frame-in p d .h;
-    depth = depth;
-    at = λ u v. here u v (ltb u (frame-in p d .w)) (ltb v (frame-in p d .h)) refl refl i;
-  };
-}
-  where
-    here : (u v : ℕ) (a b : Bool) → ltb u (frame-in p d .w) ≡ a → ltb v (frame-in p d .h) ≡ b → cond (a && b) (px d u v) 0 ≡ cond (a && b) (px′ d u v) 0
-    here u v true true ea eb = h u v (ltb-true _ _ ea) (ltb-true _ _ eb)
-    here u v true false ea eb = refl
-    here u v false b ea eb = refl
-
-pub layers-same : (depth : ℕ) (p : Plan) (px px′ : Pixels) (ds : List ℕ)
-    → ((d : ℕ) → has d ds ≡ true → (u v : ℕ) → u < frame-in p d .w → v < frame-in p d .h → px d u v ≡ px′ d u v)
-    → layers-with depth p px ds ≡ layers-with depth p px′ ds
-layers-same depth p px px′ [] h = refl
-layers-same depth p px px′ (d ∷ ds) h =
-    ap₂ (λ l ls. l ∷ ls) (pixels-by depth p px px′ d (h d (ap (λ b. b || has d ds) (same-client d))))
-    (layers-same depth p px px′ ds (λ c k. h c (or-second (eqb d c) (has c ds) k)))
-  where
-    or-second : (a b : Bool) → b ≡ true → (a || b) ≡ true
-    or-second true b e = refl
-    or-second false b e = e
-
-pub held-paper : (screen store : Picture) (p : Plan) (t : Slots) (px : Pixels) → Holds screen store p t px → paper-of screen store p t ≡ desk-with screen store p px
-unfolding paper-of
-held-paper screen store p t px h =
-    ap (λ (ls : List Layer). record { size = sizes screen; slots = slots-of (sizes store) (screen .depth); layers = ls }) (layers-same (screen .depth) p (held screen store p t) px (listed p) h)

@@ -8,3 +8,4 @@ pub mod Areas
 pub mod Blanks
 pub mod Orders
 pub mod Outcomes
+pub mod Tables

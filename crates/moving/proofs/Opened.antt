@@ -1,30 +1,29 @@
 -- A new layer: after the others were stowed, its part of the screen set to 0 and its slots blanked, every pixel is where its spot says.
 use mathlib.Core.Path.{_≡_, refl, sym, ap, ap₂, subst, _∙_}
-use mathlib.Core.Bool.{Bool, true, false, cond, _&&_, _||_}
+use mathlib.Core.Bool.{Bool, true, false, cond}
 use mathlib.Core.Logic.{⊎-elim}
 use Prim.Native.Nat.{ℕ, _/_, _%_, _^_, _<_}
-use native.Mathlib.Omega.{arith}
 use native.Mathlib.Nat.{zero-mod}
 use lib.Dec.{eqb}
 use lib.IntN.{pos}
 use Rattle.std.proofs.shelf.Tests.{and-from, and-right, or-right, both-ways, cond-true, cond-false, cases-bool, eqb-true, eq-eqb}
 use Rattle.std.specs.Options.{isSome}
-use Rattle.std.specs.declared.option.Option.the-variants.{Some, None}
+use Rattle.std.specs.declared.option.Option.the-variants.{Some}
 use Rattle.raster.specs.Picture.{Picture, sizes, painted}
 use Rattle.raster.specs.Blt.{in-rectangle, inside}
 use Rattle.raster.specs.declared.size.Size.{Size}
 use Rattle.raster.proofs.Paints.{painted-at, painted-sizes}
 use Rattle.paper.specs.Layers.{covered, topmost, screen-after}
 use Rattle.paper.proofs.Screen.{topmost-tells}
-use Rattle.plan.specs.declared.frame.Frame.{Frame}
 use Rattle.plan.specs.declared.plan.Plan.{Plan}
 use Rattle.plan.specs.declared.slots.Slots.{Slots}
 use Rattle.plan.specs.Frames.{has}
 use Rattle.plan.specs.Plans.{outline, listed, layers-in, frame-in, seen, patch-at, hidden-patch}
+use Rattle.plan.proofs.Sifts.{open-low}
 use Rattle.hold.specs.Held.{Pixels, held, Holds}
 use Rattle.moving.specs.Phases.{on-screen, store-x, store-y, in-store, Stowed, Blanked}
 use Rattle.moving.specs.Moves.{desk-with, fresh, Stays, Slotted, Worked}
-use Rattle.moving.proofs.Places.{listed-low, Real, real, real-patch, one-place, place-x, place-y, Shows, Seen-at, shown-by, seen-shows, shows-place, top-is}
+use Rattle.moving.proofs.Places.{real, real-patch, one-place, place-x, place-y, shown-by, seen-shows, top-is}
 use Rattle.moving.proofs.Stows.{Small}
 use Rattle.moving.proofs.Rearranged.{unseen-hidden, held-seen, held-unseen, was-there, same-place, whole, worked, screen-shows}
 
@@ -35,7 +34,6 @@ module _ (p q : Plan) (t t′ t″ : Slots) (c : ℕ) (px : Pixels) (s m m′ m�
     (opens : has c (listed q) ≡ true)
     (on-top : (x y : ℕ) → on-screen (p .screen) (frame-in q c) x y ≡ true → topmost (layers-in q) (pos x) (pos y) ≡ Some (outline c (frame-in q c)))
     (stays : (d : ℕ) → has d (listed q) ≡ true → eqb d c ≡ false → Stays p q t′ d) where
-
   abbrev at : ℕ → ℕ → Bool
   at = on-screen (p .screen) (frame-in q c)
 
@@ -73,9 +71,10 @@ module _ (p q : Plan) (t t′ t″ : Slots) (c : ℕ) (px : Pixels) (s m m′ m�
             let z = seen-shows q d u v h hu hv o in
             let o′ = top-is (listed q) (q .frames) (pos x) (pos y) (outline d (frame-in q d)) (z .shows .top) in
             let i : at x y ≡ true =
-              and-from _ _ (ap (λ (n : ℕ). in-rectangle (frame-in q n .x) (frame-in q n .y) (frame-in q n .w) (frame-in q n .h) (pos x) (pos y)) (sym e) ∙ o′ .covers)
-              (ap (λ n. inside n (pos x) (pos y)) (sym (work .same-screen)) ∙ z .on) in
+            and-from _ _ (ap (λ (n : ℕ). in-rectangle (frame-in q n .x) (frame-in q n .y) (frame-in q n .w) (frame-in q n .h) (pos x) (pos y)) (sym e) ∙ o′ .covers)
+            (ap (λ n. inside n (pos x) (pos y)) (sym (work .same-screen)) ∙ z .on) in
             held-seen s′ m″ q t″ d u v o ∙ there x y ∙ cond-true _ 0 (s .at x y) i
+
         stored : seen q d u v ≡ false → held s′ m″ q t″ d u v ≡ 0
         stored o =
             let r = real q d u v h hu hv in
@@ -89,8 +88,10 @@ module _ (p q : Plan) (t t′ t″ : Slots) (c : ℕ) (px : Pixels) (s m m′ m�
       where
         hu′ : u < frame-in p d .w
         hu′ = subst (λ (n : ℕ). u < n) (stays d h e .width) hu
+
         hv′ : v < frame-in p d .h
         hv′ = subst (λ (n : ℕ). v < n) (stays d h e .height) hv
+
         shows : seen q d u v ≡ true → held s′ m″ q t″ d u v ≡ px d u v
         shows o =
             let x : ℕ = place-x q d u in
@@ -98,23 +99,24 @@ module _ (p q : Plan) (t t′ t″ : Slots) (c : ℕ) (px : Pixels) (s m m′ m�
             let z = seen-shows q d u v h hu hv o in
             let on : inside (p .screen) (pos x) (pos y) ≡ true = ap (λ n. inside n (pos x) (pos y)) (sym (work .same-screen)) ∙ z .on in
             let i : at x y ≡ false = ⊎-elim (λ (w : at x y ≡ true).
-              let same : outline c (frame-in q c) ≡ outline d (frame-in q d) = cc-some _ _ (sym (on-top x y w) ∙ z .shows .top) in
-              absurd (both-ways (eqb d c) e (eq-eqb d c (sym (ap (λ l. l .client) same))))) (λ (w : at x y ≡ false). w) (cases-bool (at x y)) in
+            let same : outline c (frame-in q c) ≡ outline d (frame-in q d) = cc-some _ _ (sym (on-top x y w) ∙ z .shows .top) in
+            absurd (both-ways (eqb d c) e (eq-eqb d c (sym (ap (λ l. l .client) same))))) (λ (w : at x y ≡ false). w) (cases-bool (at x y)) in
             let z′ = shown-by p x y d u v (frame-in q d) (sym (work .off x y on i) ∙ z .shows .top) (z .shows .across) (z .shows .down) in
             held-seen s′ m″ q t″ d u v o ∙ there x y ∙ cond-false _ 0 (s .at x y) i ∙ was-there s m p t px holds x y d u v z′ on
           where
             cc-some : {A : Type 0} (a b : A) → Some a ≡ Some b → a ≡ b
             cc-some a b e = cc
+
         stored : seen q d u v ≡ false → held s′ m″ q t″ d u v ≡ px d u v
         stored o =
             let r = real q d u v h hu hv in
             let was = stays d h e .was in
             let apart : m″ .at (store-x (m .width) t′ d u v) (store-y (m .width) t′ d u v) ≡ m′ .at (store-x (m .width) t′ d u v) (store-y (m .width) t′ d u v) =
-              blanked .others _ _ (λ u′ v′ a b k′ ex ey.
-                let wide : m′ .width ≡ m .width = ap (λ (z : Size). z .width) (stowed .size) in
-                let low : c < 8 = listed-low q c opens in
-                both-ways (eqb d c) e (eq-eqb d c (one-place t′ (m .width) d u v c u′ v′ r (record { client = low; column = a; row = b }) (unseen-stored o)
-                  (ex ∙ ap (λ w. store-x w t′ c u′ v′) wide) (ey ∙ ap (λ w. store-y w t′ c u′ v′) wide) .0))) in
+            blanked .others _ _ (λ u′ v′ a b k′ ex ey.
+            let wide : m′ .width ≡ m .width = ap (λ (z : Size). z .width) (stowed .size) in
+            let low : c < 8 = open-low q c opens in
+            both-ways (eqb d c) e (eq-eqb d c (one-place t′ (m .width) d u v c u′ v′ r (record { client = low; column = a; row = b }) (unseen-stored o)
+            (ex ∙ ap (λ w. store-x w t′ c u′ v′) wide) (ey ∙ ap (λ w. store-y w t′ c u′ v′) wide) .0))) in
             in-slot o ∙ ap (λ n. n % 2 ^ s .depth) apart
             ∙ whole p q t t′ t″ at px s m m′ small holds slots work stowed d u v was hu′ hv′ (unseen-stored o)
             (worked p q t t′ t″ at px s m m′ small holds slots work stowed d u v was hu′ hv′ (λ i. absurd (both-ways (seen q d u v) o i)))

@@ -1,21 +1,21 @@
 -- Raise, lower, close, move and open: at which places another layer may come to show, and the desk on paper after each.
-use mathlib.Core.Path.{_≡_, refl, sym, ap, ap₂, subst, _∙_}
+use mathlib.Core.Path.{_≡_, refl, sym, ap, ap₂, _∙_}
 use mathlib.Core.Bool.{Bool, true, false, cond, not, _&&_, _||_}
 use mathlib.Core.List.{List, [], _∷_, _++_}
 use mathlib.Core.Logic.{⊎-elim}
-use Prim.Native.Nat.{ℕ, _+_, _*_, _/_, _%_, _<_}
+use Prim.Native.Nat.{ℕ, _*_, _/_, _%_, _<_}
 use native.Mathlib.Omega.{arith}
 use lib.Dec.{eqb, ltb}
 use lib.IntN.{ℤ, pos}
 use lib.ListN.{getD}
 use Rattle.std.proofs.shelf.Ways.{tells}
-use Rattle.std.proofs.shelf.Tests.{and-parts, and-from, and-left, and-cases, or-left, or-right, or-parts, or-from, or-cases, both-ways, eqb-true, eq-eqb, lt-ltb}
+use Rattle.std.proofs.shelf.Tests.{and-parts, and-from, and-cases, or-left, or-right, or-parts, or-from, or-cases, both-ways, eqb-true, eq-eqb, lt-ltb}
 use Rattle.std.specs.Options.{isSome}
 use Rattle.std.specs.declared.option.Option.{Option}
 use Rattle.std.specs.declared.option.Option.the-variants.{Some, None}
-use Rattle.raster.specs.Picture.{Picture, sizes}
-use Rattle.raster.specs.Blt.{in-rectangle, inside}
-use Rattle.paper.specs.Layers.{Desk, Layer, with-layers, or-else, covers, covered, topmost, keep, only, without, alter, at-corner}
+use Rattle.raster.specs.Picture.{Picture}
+use Rattle.raster.specs.Blt.{inside}
+use Rattle.paper.specs.Layers.{Layer, with-layers, or-else, covers, covered, topmost, only, without, alter, at-corner}
 use Rattle.paper.specs.Desk.{change, open-layer, close-layer, raise-layer, lower-layer, move-layer, new-layer}
 use Rattle.paper.proofs.Screen.{none-topmost, topmost-tells}
 use Rattle.paper.proofs.Layers.{or-else-none}
@@ -25,10 +25,12 @@ use Rattle.plan.specs.declared.slots.Slots.{Slots}
 use Rattle.plan.specs.Frames.{no-frame, has}
 use Rattle.plan.specs.Plans.{outline, outlines, listed, layers-in, frame-in, patch-at, patch-of, has-slot}
 use Rattle.hold.specs.Held.{Pixels, layers-with}
+use Rattle.hold.proofs.Places.{covered-listed}
+use Rattle.hold.proofs.Papers.{layers-same}
 use Rattle.moving.specs.Phases.{on-screen, in-store}
 use Rattle.moving.specs.Moves.{desk-with, fresh, Stays, Worked}
 use Rattle.moving.proofs.Places.{same-client, real, real-patch}
-use Rattle.moving.proofs.Dressed.{dressed, dress, dressed-layers, dress-keep, dress-++, dress-alter, layers-same}
+use Rattle.moving.proofs.Dressed.{dressed, dress, dressed-layers, dress-keep, dress-++, dress-alter}
 
 -- ── The topmost layer, with some layers put elsewhere ──
 
@@ -93,12 +95,6 @@ only-covered c (d ∷ ds) fs x y n = go (only-covered c ds fs x y n) (eqb c d) r
     go ih true e = or-from _ _ (ap (λ k. covers (outline k (getD fs k no-frame)) x y) (sym (eqb-true c d e)) ∙ n) ih
     go ih false e = ih
 
-open-covers : (c : ℕ) (ds : List ℕ) (fs : List Frame) (x y : ℤ) → has c ds ≡ true → covers (outline c (getD fs c no-frame)) x y ≡ true → covered (outlines ds fs) x y ≡ true
-open-covers c [] fs x y h k = absurd (both-ways false refl h)
-open-covers c (d ∷ ds) fs x y h k =
-    ⊎-elim (λ (e : eqb d c ≡ true). or-left _ _ (ap (λ j. covers (outline j (getD fs j no-frame)) x y) (eqb-true d c e) ∙ k)) (λ (m : has c ds ≡ true). or-right (covers (outline d (getD fs d no-frame)) x y) _ (open-covers c ds fs x y m k))
-    (or-cases (eqb d c) (has c ds) h)
-
 -- the places of a client's frame on the screen
 
 module _ (p : Plan) (c x y : ℕ) where
@@ -120,7 +116,7 @@ module _ (p q : Plan) (c : ℕ) (screens : q .screen ≡ p .screen) (was : has c
   same-off same = record {
     same-screen = screens;
     on = λ x y h. and-parts (covers (outline c (frame-in p c)) (pos x) (pos y)) _ h .1;
-    under = λ x y h. or-left _ _ (open-covers c (listed p) (p .frames) (pos x) (pos y) was (on-covers p c x y h));
+    under = λ x y h. or-left _ _ (covered-listed (p .frames) c (pos x) (pos y) (listed p) was (on-covers p c x y h));
     off = λ x y i n. same x y (off-covers p c x y i n);
   }
 
@@ -139,8 +135,8 @@ module _ (p q : Plan) (c : ℕ) (screens : q .screen ≡ p .screen) (was : has c
   moved-same-off a b e is = record {
     same-screen = screens;
     on = λ x y h. ⊎-elim (λ (i : on-screen (p .screen) (frame-in p c) x y ≡ true). and-parts _ (inside (p .screen) (pos x) (pos y)) i .1) (λ (i : on-screen (p .screen) (frame-in q c) x y ≡ true). and-parts _ (inside (p .screen) (pos x) (pos y)) i .1) (or-cases _ _ h);
-    under = λ x y h. ⊎-elim (λ (i : on-screen (p .screen) (frame-in p c) x y ≡ true). or-left _ _ (open-covers c (listed p) (p .frames) (pos x) (pos y) was (and-parts (covers (outline c (frame-in p c)) (pos x) (pos y)) _ i .0)))
-        (λ (i : on-screen (p .screen) (frame-in q c) x y ≡ true). or-right (covered (layers-in p) (pos x) (pos y)) _ (open-covers c (listed q) (q .frames) (pos x) (pos y) is (and-parts (covers (outline c (frame-in q c)) (pos x) (pos y)) _ i .0))) (or-cases _ _ h);
+    under = λ x y h. ⊎-elim (λ (i : on-screen (p .screen) (frame-in p c) x y ≡ true). or-left _ _ (covered-listed (p .frames) c (pos x) (pos y) (listed p) was (and-parts (covers (outline c (frame-in p c)) (pos x) (pos y)) _ i .0)))
+        (λ (i : on-screen (p .screen) (frame-in q c) x y ≡ true). or-right (covered (layers-in p) (pos x) (pos y)) _ (covered-listed (q .frames) c (pos x) (pos y) (listed q) is (and-parts (covers (outline c (frame-in q c)) (pos x) (pos y)) _ i .0))) (or-cases _ _ h);
     off = λ x y i n.
         let o = or-parts (on-screen (p .screen) (frame-in p c) x y) (on-screen (p .screen) (frame-in q c) x y) n in
         let i′ : inside (q .screen) (pos x) (pos y) ≡ true = ap (λ z. inside z (pos x) (pos y)) screens ∙ i in
@@ -232,11 +228,13 @@ opened-paper s m p q c f px none e =
         go : (b : Bool) → eqb d c ≡ b → cond b 0 (px d u v) ≡ px d u v
         go true k = absurd (both-ways (has c (listed p)) none (ap (λ n. has n (listed p)) (sym (eqb-true d c k)) ∙ h))
         go false k = refl
+
     nothing : (u v : ℕ) → cond (ltb u (f .w) && ltb v (f .h)) (fresh c px c u v) 0 ≡ 0
     nothing u v = ap (λ b. cond (ltb u (f .w) && ltb v (f .h)) (cond b 0 (px c u v)) 0) (same-client c) ∙ either (ltb u (f .w) && ltb v (f .h))
       where
         either : (b : Bool) → cond {A = ℕ} b 0 0 ≡ 0
         either true = refl
         either false = refl
+
     zeros : dressed (s .depth) (fresh c px) (outline c f) ≡ new-layer (s .depth) c (f .x) (f .y) (f .w) (f .h)
     zeros = λ i. record { client = c; x = f .x; y = f .y; pixels = record { width = f .w; height = f .h; depth = s .depth; at = λ u v. nothing u v i } }

@@ -1,34 +1,36 @@
 -- What each call comes to, on paper and on the screen.
 use mathlib.Core.Path.{_≡_, refl, sym, ap, ap₂, subst, _∙_}
-use mathlib.Core.Bool.{Bool, true, false, not, _&&_, _||_}
-use mathlib.Core.List.{List, [], _∷_, _++_}
+use mathlib.Core.Bool.{Bool, true, false, not, _||_}
+use mathlib.Core.List.{[], _∷_, _++_}
 use mathlib.Core.Logic.{⊎-elim}
-use Prim.Native.Nat.{ℕ, _<_}
-use lib.Dec.{eqb, ltb}
-use lib.IntN.{ℤ, pos}
-use Rattle.std.proofs.shelf.Tests.{and-parts, or-cases, or-right, both-ways, not-true, eqb-true, eqb-false, cases-bool}
+use Prim.Native.Nat.{ℕ}
+use lib.Dec.{eqb}
+use lib.IntN.{pos}
+use Rattle.std.proofs.shelf.Tests.{and-parts, or-cases, or-right, eqb-true, eqb-false, cases-bool}
 use Rattle.std.specs.declared.option.Option.the-variants.{Some}
-use Rattle.raster.specs.Picture.{Picture, sizes, painted, Sound}
+use Rattle.raster.specs.Picture.{Picture, sizes, painted}
 use Rattle.raster.specs.Calls.{fill-with, bitmap-after}
 use Rattle.raster.specs.declared.size.Size.{Size}
-use Rattle.paper.specs.Layers.{Desk, topmost, only, without, alter, at-corner, screen-after}
+use Rattle.paper.specs.Layers.{Desk, topmost, screen-after}
 use Rattle.paper.specs.Desk.{change, open-layer, close-layer, raise-layer, lower-layer, move-layer}
 use Rattle.plan.specs.declared.frame.Frame.{Frame}
 use Rattle.plan.specs.declared.plan.Plan.{Plan}
 use Rattle.plan.specs.declared.slots.Slots.{Slots}
 use Rattle.plan.specs.Frames.{has}
-use Rattle.plan.specs.Plans.{outline, listed, layers-in, frame-in, patch-of, has-slot}
-use Rattle.plan.specs.Arranged.{Arranged, Same-frames, Other-frames, cornered, can-open}
+use Rattle.plan.specs.Plans.{outline, listed, layers-in, frame-in}
+use Rattle.plan.specs.Arranged.{Arranged, Same-frames, Other-frames, can-open}
 use Rattle.hold.specs.Held.{Pixels, held, Holds, paper-of}
-use Rattle.moving.specs.Phases.{Fitting, on-screen, Stowed, repainted, Blanked}
-use Rattle.moving.specs.Moves.{desk-with, fresh, Stays, Slotted, Worked}
+use Rattle.moving.specs.Phases.{on-screen, Stowed, repainted, Blanked}
+use Rattle.moving.specs.Moves.{desk-with, fresh, Stays, Worked}
 use Rattle.moving.specs.Laws.{Begins, Leaves, Moving-laws}
 use Rattle.moving.proofs.Places.{same-client}
 use Rattle.moving.proofs.Stows.{stowed-join, repainted-join}
-use Rattle.moving.proofs.Dressed.{held-paper}
+use Rattle.plan.proofs.Sifts as sifts
+use Rattle.hold.proofs.Papers.{held-paper}
 use Rattle.moving.proofs.Rearranged.{desk-same, rearranged, rearranged-sizes, rearranged-screen}
 use Rattle.moving.proofs.Opened.{opened, opened-sizes, opened-screen}
 use Rattle.moving.proofs.Blanks.{filled-zero}
+use Rattle.moving.proofs.Tables.{slots-given, given-fits, moved-given, closed-given, closed-fits}
 use Rattle.moving.proofs.Orders.{raised-same-off, lowered-same-off, closed-same-off, moved-same-off, opened-same-off, opened-topmost, stays-still, stays-moved, raised-paper, lowered-paper, closed-paper, moved-paper, opened-paper}
 
 -- the desk on paper, and every pixel where its spot says, before the call
@@ -73,7 +75,7 @@ opens : (s m m₁ s′ m′ : Picture) (p q : Plan) (t t′ t″ : Slots) (c : �
     → Leaves s m p t s′ m′ q t″ (change (paper-of s m p t) (open-layer c (f .x) (f .y) (f .w) (f .h)))
 opens s m m₁ s′ m′ p q t t′ t″ c f b can a others own st bl re =
     let px : Pixels = held s m p t in
-    let was : has c (listed p) ≡ false = not-true _ (and-parts (not (has c (listed p))) (ltb (f .w) 321 && ltb (f .h) 241) (and-parts (ltb c 8) (not (has c (listed p)) && (ltb (f .w) 321 && ltb (f .h) 241)) can .1) .0) in
+    let was : has c (listed p) ≡ false = sifts.opens p c f can .none in
     let is : has c (listed q) ≡ true = a .clients c ∙ or-right (has c (listed p)) (eqb c c) (same-client c) in
     let holds : Holds s m p t px = λ c h u v hu hv. refl in
     let small = b .sound .values in
@@ -81,7 +83,7 @@ opens s m m₁ s′ m′ p q t t′ t″ c f b can a others own st bl re =
     let stowed : Stowed s p t′ (on-screen (p .screen) (frame-in q c)) m m₁ = subst (λ (g : Frame). Stowed s p t′ (on-screen (p .screen) g) m m₁) (sym own) st in
     let zeros : s′ ≡ painted s (on-screen (p .screen) (frame-in q c)) (λ _ _. 0) = re ∙ filled-zero s f ∙ ap₂ (λ (z : Size) (g : Frame). painted s (on-screen z g) (λ _ _. 0)) (sym (b .fitting .sized)) (sym own) in
     let top : (x y : ℕ) → on-screen (p .screen) (frame-in q c) x y ≡ true → topmost (layers-in q) (pos x) (pos y) ≡ Some (outline c (frame-in q c)) =
-      subst (λ (g : Frame). (x y : ℕ) → on-screen (p .screen) g x y ≡ true → topmost (layers-in q) (pos x) (pos y) ≡ Some (outline c g)) (sym own) (opened-topmost p q c f (a .screen) (a .layers)) in
+    subst (λ (g : Frame). (x y : ℕ) → on-screen (p .screen) g x y ≡ true → topmost (layers-in q) (pos x) (pos y) ≡ Some (outline c g)) (sym own) (opened-topmost p q c f (a .screen) (a .layers)) in
     let stays : (d : ℕ) → has d (listed q) ≡ true → eqb d c ≡ false → Stays p q t′ d = λ d h n. stays-still p q t′ d (known d h n) (others d (eqb-false d c n)) in
     outcome s m s′ m′ p q t t′ t″ b (fresh c px) _
     (opened p q t t′ t″ c px s m m₁ m′ s′ small holds (b .slots) work stowed bl zeros is top stays)
@@ -96,6 +98,9 @@ opens s m m₁ s′ m′ p q t t′ t″ c f b can a others own st bl re =
 
 pub moving-laws : Moving-laws
 moving-laws = record {
+  supplied = λ p q t t′ t″ moved f a r. (slots-given p q t t′ t″ moved f a r, given-fits p q t t′ t″ moved f a r);
+  all-supplied = moved-given;
+  none-supplied = λ p q t t″ c f e l r. (closed-given p q t t″ c f e l r, closed-fits p q t t″ c f e l r);
   raised = λ s m s′ m′ p q t t′ t″ c b h a f st re.
       turned s m s′ m′ p q t t′ t″ b c _ (raised-same-off p q c (a .screen) h (a .layers)) (λ d i. sym (a .clients d) ∙ i) f st re
       (on-paper s m p t (λ d. change d (raise-layer c)) _ (raised-paper s m p q c (held s m p t) (a .layers)));
@@ -109,7 +114,7 @@ moving-laws = record {
       through s m s′ m′ p q t t′ t″ b (λ i j. on-screen (p .screen) (frame-in p c) i j || on-screen (p .screen) (frame-in q c) i j) _
       (moved-same-off p q c (a .screen) h x y (a .layers) (a .clients c ∙ h))
       (λ d i. ⊎-elim (λ (e : eqb d c ≡ true).
-        subst (Stays p q t′) (sym (eqb-true d c e)) (stays-moved p q t′ c h (a .clients c ∙ h) (ap (λ (g : Frame). g .w) own) (ap (λ (g : Frame). g .h) own) all))
+      subst (Stays p q t′) (sym (eqb-true d c e)) (stays-moved p q t′ c h (a .clients c ∙ h) (ap (λ (g : Frame). g .w) own) (ap (λ (g : Frame). g .h) own) all))
       (λ (e : eqb d c ≡ false). stays-still p q t′ d (sym (a .clients d) ∙ i) (f d (eqb-false d c e))) (cases-bool (eqb d c)))
       (stowed-join s p t′ (on-screen (p .screen) (frame-in p c)) (on-screen (p .screen) (frame-in q c)) m m₁ m′ st st′)
       (re′ ∙ ap (repainted m′ q t′ (on-screen (q .screen) (frame-in q c))) re ∙ repainted-join m′ q t′ (on-screen (q .screen) (frame-in p c)) (on-screen (q .screen) (frame-in q c)) s

@@ -1,22 +1,21 @@
 -- Which layer shows at a screen place, and where its pixel lies in the store.
 use mathlib.Core.Path.{_≡_, refl, sym, ap, ap₂, subst, _∙_}
-use mathlib.Core.Bool.{Bool, true, false, cond, not, _&&_, _||_}
+use mathlib.Core.Bool.{Bool, true, false, cond, not, _||_}
 use mathlib.Core.List.{List, [], _∷_}
-use mathlib.Core.Logic.{⊎-elim}
-use Prim.Native.Nat.{ℕ, zero, suc, _+_, _*_, _/_, _%_, _^_, _<_, _≤_}
+use Prim.Native.Nat.{ℕ, _+_, _*_, _/_, _%_, _<_, _≤_}
 use native.Mathlib.Omega.{arith}
 use native.Mathlib.Nat.{div-add-mod, mod-lt, div-lt-iff-lt-mul, mul-comm}
 use lib.Dec.{eqb, ltb}
 use lib.IntN.{ℤ, pos, natAbs, _+ℤ_, _-ℤ_}
-use lib.ListN.{getD, take}
+use lib.ListN.{getD}
 use Rattle.std.proofs.shelf.Signed.{ints}
 use Rattle.std.proofs.shelf.Ways.{tells}
-use Rattle.std.proofs.shelf.Tests.{and-parts, and-from, or-cases, or-left, or-right, not-true, not-from-false, both-ways, eqb-true, eq-eqb, ltb-true, lt-ltb, cases-bool}
+use Rattle.std.proofs.shelf.Tests.{and-parts, and-from, or-left, or-right, not-true, not-from-false, both-ways, eqb-true, eq-eqb, ltb-true, lt-ltb}
 use Rattle.std.specs.Options.{isSome}
 use Rattle.std.specs.declared.option.Option.{Option}
 use Rattle.std.specs.declared.option.Option.the-variants.{Some, None}
 use Rattle.raster.specs.Picture.{Picture, sizes}
-use Rattle.raster.specs.Blt.{holds, in-rectangle, inside}
+use Rattle.raster.specs.Blt.{holds, inside}
 use Rattle.raster.specs.declared.size.Size.{Size}
 use Rattle.paper.specs.Layers.{Layer, or-else, covers, covered, topmost}
 use Rattle.paper.specs.Slots.{slots-of}
@@ -26,26 +25,16 @@ use Rattle.paper.proofs.Hidden.{covers-pixel}
 use Rattle.plan.specs.declared.frame.Frame.{Frame}
 use Rattle.plan.specs.declared.plan.Plan.{Plan}
 use Rattle.plan.specs.declared.slots.Slots.{Slots}
-use Rattle.plan.specs.Frames.{no-frame, has, distinct, Clash}
-use Rattle.plan.specs.Plans.{outline, outlines, listed, layers-in, frame-in, above, seen, patch-at, slot-of, has-slot}
-use Rattle.hold.specs.Spots.{slot-x, slot-y, own-slot}
-use Rattle.moving.specs.declared.backing.Backing.{Backing}
+use Rattle.plan.specs.Frames.{no-frame, has, distinct}
+use Rattle.plan.specs.Plans.{outline, outlines, listed, layers-in, frame-in, above, seen, patch-at}
+use Rattle.plan.proofs.Sifts.{open-low}
+use Rattle.hold.specs.Spots.{own-slot}
+use Rattle.hold.proofs.Places.{some-across}
 use Rattle.moving.specs.declared.backing.Backing.the-variants.{Bare, Alone, Kept}
-use Rattle.moving.specs.Phases.{Fitting, store-x, store-y, in-store, kept-pixel, from-corner, backed, behind}
+use Rattle.moving.specs.Phases.{store-x, store-y, in-store, kept-pixel, from-corner, backed, behind}
 
 pub same-client : (c : ℕ) → eqb c c ≡ true
 same-client c = eq-eqb c c refl
-
--- ── Clients ──
-
-pub low-client : (n d : ℕ) (xs : List ℕ) → ((k : ℕ) → getD xs k 0 < 8) → has d (take n xs) ≡ true → d < 8
-low-client zero d xs h k = absurd (both-ways false refl k)
-low-client (suc n) d [] h k = absurd (both-ways false refl k)
-low-client (suc n) d (x ∷ xs) h k =
-    ⊎-elim (λ (e : eqb x d ≡ true). omega (arith, eqb-true x d e, h 0)) (λ (m : has d (take n xs) ≡ true). low-client n d xs (λ i. h (suc i)) m) (or-cases (eqb x d) (has d (take n xs)) k)
-
-pub listed-low : (p : Plan) (d : ℕ) → has d (listed p) ≡ true → d < 8
-listed-low p d h = low-client (p .count) d (p .order) (p .low) h
 
 -- ── The topmost layer ──
 
@@ -136,11 +125,8 @@ sixteen a b i j hi hj e = (omega arith, omega arith)
 below-16 : (n : ℕ) → n % 16 < 16
 below-16 n = mod-lt n (omega arith)
 
-pub patch-number : (c i j : ℕ) → i < 20 → j < 15 → c < 8 → patch-at c i j < 2400
-patch-number c i j hi hj hc = omega arith
-
-pub patch-parts : (c i j c′ i′ j′ : ℕ) → i < 20 → j < 15 → i′ < 20 → j′ < 15 → patch-at c i j ≡ patch-at c′ i′ j′ → (c ≡ c′) × (i ≡ i′) × (j ≡ j′)
-patch-parts c i j c′ i′ j′ hi hj hi′ hj′ e = (omega arith, omega arith, omega arith)
+same-patch : (c i j c′ i′ j′ : ℕ) → i < 20 → j < 15 → i′ < 20 → j′ < 15 → patch-at c i j ≡ patch-at c′ i′ j′ → (c ≡ c′) × (i ≡ i′) × (j ≡ j′)
+same-patch c i j c′ i′ j′ hi hj hi′ hj′ e = (omega arith, omega arith, omega arith)
 
 -- A pixel that a layer may have.
 pub record Real (c u v : ℕ) : Type 0 where
@@ -149,7 +135,7 @@ pub record Real (c u v : ℕ) : Type 0 where
   pub row : v < 240
 
 pub real : (p : Plan) (c u v : ℕ) → has c (listed p) ≡ true → u < frame-in p c .w → v < frame-in p c .h → Real c u v
-real p c u v h hu hv = record { client = listed-low p c h; column = omega (arith, p .narrow c); row = omega (arith, p .short c) }
+real p c u v h hu hv = record { client = open-low p c h; column = omega (arith, p .narrow c); row = omega (arith, p .short c) }
 
 pub real-patch : (c u v : ℕ) → Real c u v → patch-at c (u / 16) (v / 16) < 2400
 real-patch c u v r = omega arith
@@ -165,8 +151,8 @@ one-place t width c u v c′ u′ v′ r r′ k ex ey =
     let b = sixteen (s / n) (s′ / n) (v % 16) (v′ % 16) (below-16 v) (below-16 v′) ey in
     let e : s ≡ s′ = sym (div-add-mod s n) ∙ ap₂ (λ q r. n * q + r) (b .0) (a .0) ∙ div-add-mod s′ n in
     let same = t .apart (patch-at c (u / 16) (v / 16)) (patch-at c′ (u′ / 16) (v′ / 16))
-      (record { one = real-patch c u v r; other = real-patch c′ u′ v′ r′; taken = ltb-true _ _ k; same = e }) in
-    let q = patch-parts c (u / 16) (v / 16) c′ (u′ / 16) (v′ / 16) (omega arith) (omega arith) (omega arith) (omega arith) same in
+    (record { one = real-patch c u v r; other = real-patch c′ u′ v′ r′; taken = ltb-true _ _ k; same = e }) in
+    let q = same-patch c (u / 16) (v / 16) c′ (u′ / 16) (v′ / 16) (omega arith) (omega arith) (omega arith) (omega arith) same in
     let q0 = q .0 in let q1 = q .1 in let q2 = q .2 in let a1 = a .1 in let b1 = b .1 in
     (q0, omega arith, omega arith)
 
@@ -189,14 +175,10 @@ place-within screen store t c u v e k =
     let h : s < slots-of (sizes store) (screen .depth) = rw e at (ltb-true s (t .places) k) in
     let q = some-slot (ltb (store .depth) (screen .depth)) s (n * m) h in
     let q0 = q .0 in
-    let some : 0 < n = wide n m s (q .1) in
+    let some : 0 < n = some-across s n m (q .1) in
     let left : s % n < n = mod-lt s some in
     let up : s / n < m = div-lt-iff-lt-mul some .1 (rw (mul-comm n m) at (q .1)) in
     record { across = omega (arith, below-16 u); down = omega (arith, below-16 v); deep = grind (arith, tells) }
-  where
-    wide : (n m s : ℕ) → s < n * m → 0 < n
-    wide zero m s h = absurd (omega arith)
-    wide (suc n) m s h = omega arith
 
 -- ── What shows at a place ──
 

@@ -1,68 +1,47 @@
 -- From one arrangement to another: after stowing and repainting every pixel is where its spot says, and the screen shows the layers.
 use mathlib.Core.Path.{_≡_, refl, sym, ap, ap₂, subst, _∙_}
-use mathlib.Core.Bool.{Bool, true, false, cond, not, _&&_, _||_}
-use mathlib.Core.List.{List, [], _∷_}
+use mathlib.Core.Bool.{Bool, true, false, cond, _&&_, _||_}
+use mathlib.Core.List.{List}
 use mathlib.Core.Logic.{_⊎_, inl, inr, ⊎-elim}
-use Prim.Native.Nat.{ℕ, zero, suc, _+_, _*_, _/_, _%_, _^_, _<_, _≤_}
+use Prim.Native.Nat.{ℕ, _+_, _*_, _/_, _%_, _^_, _<_}
 use native.Mathlib.Omega.{arith}
 use native.Mathlib.Nat.{mod-eq-of-lt}
-use lib.Dec.{eqb, ltb}
-use lib.IntN.{ℤ, pos, natAbs, _+ℤ_}
-use lib.ListN.{getD}
-use Rattle.std.proofs.shelf.Tests.{and-parts, and-from, and-left, or-left, or-right, or-from, or-cases, not-from-false, both-ways, cond-true, cond-false, cases-bool, lt-ltb, eqb-true}
+use lib.IntN.{pos, natAbs, _+ℤ_}
+use Rattle.std.proofs.shelf.Tests.{and-from, and-left, or-left, or-right, or-cases, not-from-false, both-ways, cond-true, cond-false, cases-bool, lt-ltb}
 use Rattle.std.specs.Options.{isSome}
 use Rattle.std.specs.declared.option.Option.{Option}
 use Rattle.std.specs.declared.option.Option.the-variants.{Some, None}
-use Rattle.raster.specs.Picture.{Picture, sizes, painted}
+use Rattle.raster.specs.Picture.{Picture, sizes}
 use Rattle.raster.specs.Blt.{inside}
 use Rattle.raster.specs.Calls.{any-below}
 use Rattle.raster.specs.declared.size.Size.{Size}
 use Rattle.raster.proofs.Paints.{same-picture, painted-at}
-use Rattle.paper.specs.Layers.{Desk, Layer, covered, topmost, shown, screen-after}
+use Rattle.paper.specs.Layers.{Layer, covered, topmost, shown, screen-after}
 use Rattle.paper.specs.Slots.{slots-of, obscured, hidden, hidden-in}
 use Rattle.paper.proofs.Screen.{topmost-tells, none-shown, screen-sizes}
-use Rattle.plan.specs.declared.frame.Frame.{Frame}
 use Rattle.plan.specs.declared.plan.Plan.{Plan}
 use Rattle.plan.specs.declared.slots.Slots.{Slots}
-use Rattle.plan.specs.Frames.{no-frame, has}
-use Rattle.plan.specs.Plans.{outline, outlines, listed, layers-in, frame-in, above, seen, patch-at, hidden-patch, slot-of, has-slot, Fits}
-use Rattle.hold.specs.declared.spot.Spot.{Spot}
-use Rattle.hold.specs.Spots.{slot-x, slot-y, own-slot, screen-spot, store-spot, spot-of, look}
+use Rattle.plan.specs.Frames.{has}
+use Rattle.plan.specs.Plans.{outline, listed, layers-in, frame-in, above, seen, patch-at, hidden-patch, slot-of, has-slot}
+use Rattle.plan.proofs.Patches.{any-of, hidden-open}
+use Rattle.hold.specs.Spots.{slot-x, slot-y, screen-spot, store-spot, spot-of, look}
 use Rattle.hold.specs.Held.{Pixels, layers-with, held, Holds}
+use Rattle.hold.proofs.Papers.{covered-with}
 use Rattle.moving.specs.declared.backing.Backing.{Backing}
 use Rattle.moving.specs.declared.backing.Backing.the-variants.{Bare, Alone, Kept}
-use Rattle.moving.specs.Phases.{store-x, store-y, in-store, kept-pixel, from-corner, backed, behind, Stowed, changes, taken, repainted}
+use Rattle.moving.specs.Phases.{store-x, store-y, in-store, from-corner, behind, Stowed, changes, taken, repainted}
 use Rattle.moving.specs.Moves.{desk-with, Stays, Slotted, Worked}
-use Rattle.moving.proofs.Places.{same-client, Real, real, real-patch, place-x, place-y, Shows, Seen-at, shown-by, shows-behind, bare-behind, shows-seen, seen-shows, shows-place, top-shows, Keeps, behind-keeps, keeps-pixel}
+use Rattle.moving.proofs.Places.{real, real-patch, place-x, place-y, Shows, Seen-at, shown-by, shows-behind, bare-behind, shows-seen, seen-shows, shows-place, top-shows, behind-keeps, keeps-pixel}
 use Rattle.moving.proofs.Stows.{Small, repainted-sizes, repainted-at}
-use Rattle.moving.proofs.Dressed.{with-covered, with-shown}
+use Rattle.moving.proofs.Dressed.{with-shown}
 
 -- ── An obscured pixel's patch is hidden ──
-
-any-yes : (f : ℕ → Bool) (n k : ℕ) → k < n → f k ≡ true → any-below f n ≡ true
-any-yes f zero k h e = absurd (omega arith)
-any-yes f (suc n) k h e =
-    ⊎-elim (λ (s : k ≡ n). or-right (any-below f n) (f n) (ap f (sym s) ∙ e)) (λ (l : k < n). or-left (any-below f n) (f n) (any-yes f n k l e)) (last n k h)
-  where
-    last : (n k : ℕ) → k < suc n → (k ≡ n) ⊎ (k < n)
-    last n k h = grind arith
 
 patch-hidden : (screen : Size) (higher : List Layer) (l : Layer) (u v : ℕ) → obscured screen higher l u v ≡ true → hidden screen higher l (u / 16) (v / 16) ≡ true
 unfolding hidden
 patch-hidden screen higher l u v e =
-    any-yes (λ b. any-below (λ a. obscured screen higher l (16 * (u / 16) + a) (16 * (v / 16) + b)) 16) 16 (v % 16) (omega arith)
-    (any-yes (λ a. obscured screen higher l (16 * (u / 16) + a) (16 * (v / 16) + v % 16)) 16 (u % 16) (omega arith) (ap₂ (obscured screen higher l) (omega arith) (omega arith) ∙ e))
-
-hidden-listed : (screen : Size) (d i j : ℕ) (ds : List ℕ) (fs : List Frame) → has d ds ≡ true
-    → hidden-in screen (outlines ds fs) d i j ≡ hidden screen (above d (outlines ds fs)) (outline d (getD fs d no-frame)) i j
-hidden-listed screen d i j [] fs h = absurd (both-ways false refl h)
-hidden-listed screen d i j (c ∷ ds) fs h = go (hidden-listed screen d i j ds fs) (eqb c d) refl h
-  where
-    go : (has d ds ≡ true → hidden-in screen (outlines ds fs) d i j ≡ hidden screen (above d (outlines ds fs)) (outline d (getD fs d no-frame)) i j) → (b : Bool) → eqb c d ≡ b → (b || has d ds) ≡ true
-        → cond b (hidden screen (outlines ds fs) (outline c (getD fs c no-frame)) i j) (hidden-in screen (outlines ds fs) d i j)
-        ≡ hidden screen (cond b (outlines ds fs) (above d (outlines ds fs))) (outline d (getD fs d no-frame)) i j
-    go ih true e h = ap (λ k. hidden screen (outlines ds fs) (outline k (getD fs k no-frame)) i j) (eqb-true c d e)
-    go ih false e h = ih h
+    any-of (λ b. any-below (λ a. obscured screen higher l (16 * (u / 16) + a) (16 * (v / 16) + b)) 16) 16 (v % 16) (omega arith)
+    (any-of (λ a. obscured screen higher l (16 * (u / 16) + a) (16 * (v / 16) + v % 16)) 16 (u % 16) (omega arith) (ap₂ (obscured screen higher l) (omega arith) (omega arith) ∙ e))
 
 pub unseen-hidden : (p : Plan) (d u v : ℕ) → has d (listed p) ≡ true → u < frame-in p d .w → v < frame-in p d .h → seen p d u v ≡ false
     → hidden-patch p (patch-at d (u / 16) (v / 16)) ≡ true
@@ -73,7 +52,7 @@ unseen-hidden p d u v h hu hv s =
     let ei : k % 300 % 20 ≡ u / 16 = omega arith in
     let ej : k % 300 / 20 ≡ v / 16 = omega arith in
     (λ i. hidden-in (p .screen) (layers-in p) (ec i) (ei i) (ej i))
-    ∙ hidden-listed (p .screen) d (u / 16) (v / 16) (listed p) (p .frames) h
+    ∙ hidden-open (p .screen) (p .frames) d (u / 16) (v / 16) (listed p) h
     ∙ patch-hidden (p .screen) (above d (layers-in p)) (outline d (frame-in p d)) u v (and-from _ _ (and-from _ _ (lt-ltb u _ hu) (lt-ltb v _ hv)) (not-from-false _ s))
 
 -- ── What is held where ──
@@ -114,6 +93,7 @@ screen-shows s s′ m m′ p q t″ px px′ holds size fit bare outside =
   where
     left : sizes (screen-after s (desk-with s m p px) (desk-with s m q px′)) ≡ sizes s
     left = screen-sizes s (desk-with s m p px) (desk-with s m q px′)
+
     place : (x y : ℕ) (b : Bool) → inside (sizes s) (pos x) (pos y) ≡ b → (o : Option Layer) → topmost (layers-in q) (pos x) (pos y) ≡ o
         → s′ .at x y ≡ cond (inside (sizes s) (pos x) (pos y) && (covered (layers-with (s .depth) p px (listed p)) (pos x) (pos y) || covered (layers-with (s .depth) q px′ (listed q)) (pos x) (pos y)))
         (shown (layers-with (s .depth) q px′ (listed q)) (pos x) (pos y)) (s .at x y)
@@ -124,14 +104,14 @@ screen-shows s s′ m m′ p q t″ px px′ holds size fit bare outside =
         let z = top-shows q x y l eo in
         let i = shows-place q x y (l .client) u v z in
         let on : seen q (l .client) u v ≡ true = shows-seen q x y (l .client) u v z (ap (λ n. inside n (pos x) (pos y)) fit ∙ e) in
-        let c : covered (layers-with (s .depth) q px′ (listed q)) (pos x) (pos y) ≡ true = with-covered (s .depth) q px′ (pos x) (pos y) ∙ topmost-tells (layers-in q) (pos x) (pos y) ∙ ap isSome eo in
+        let c : covered (layers-with (s .depth) q px′ (listed q)) (pos x) (pos y) ≡ true = covered-with (s .depth) q px′ (listed q) (pos x) (pos y) ∙ topmost-tells (layers-in q) (pos x) (pos y) ∙ ap isSome eo in
         ap₂ (s′ .at) (sym (i .0)) (sym (i .1)) ∙ sym (held-seen s′ m′ q t″ (l .client) u v on) ∙ holds (l .client) (z .listed) u v (z .column) (z .row)
         ∙ sym (with-shown (s .depth) q px′ x y (l .client) u v z) ∙ sym (cond-true _ _ (s .at x y) (and-from _ _ e (or-right _ _ c)))
     place x y true e None eo =
         let n : covered (layers-in q) (pos x) (pos y) ≡ false = topmost-tells (layers-in q) (pos x) (pos y) ∙ ap isSome eo in
-        let c : covered (layers-with (s .depth) q px′ (listed q)) (pos x) (pos y) ≡ false = with-covered (s .depth) q px′ (pos x) (pos y) ∙ n in
+        let c : covered (layers-with (s .depth) q px′ (listed q)) (pos x) (pos y) ≡ false = covered-with (s .depth) q px′ (listed q) (pos x) (pos y) ∙ n in
         bare x y e n
-        ∙ ap₂ (λ b v. cond b v (s .at x y)) (sym (with-covered (s .depth) p px (pos x) (pos y))) (sym (none-shown (layers-with (s .depth) q px′ (listed q)) (pos x) (pos y) c))
+        ∙ ap₂ (λ b v. cond b v (s .at x y)) (sym (covered-with (s .depth) p px (listed p) (pos x) (pos y))) (sym (none-shown (layers-with (s .depth) q px′ (listed q)) (pos x) (pos y) c))
         ∙ ap (λ b. cond b (shown (layers-with (s .depth) q px′ (listed q)) (pos x) (pos y)) (s .at x y)) (sym (simply _ _ _ e c))
       where
         simply : (a b c : Bool) → a ≡ true → c ≡ false → (a && (b || c)) ≡ b
@@ -146,7 +126,6 @@ desk-same s s′ m m′ q px es em = λ i. record { size = es i; slots = slots-o
 
 module _ (p q : Plan) (t t′ t″ : Slots) (at : ℕ → ℕ → Bool) (px : Pixels) (s m m′ : Picture)
     (small : Small s) (holds : Holds s m p t px) (slots : Slotted p q t t′ t″) (work : Worked p q at) (stowed : Stowed s p t′ at m m′) where
-
   -- A pixel whose patch has a slot is in the store, if it was obscured or shows at a place worked on.
   pub whole : (d u v : ℕ) → has d (listed p) ≡ true → u < frame-in p d .w → v < frame-in p d .h → in-store t′ d u v ≡ true
       → (seen p d u v ≡ true → at (place-x p d u) (place-y p d v) ≡ true)
@@ -160,14 +139,15 @@ module _ (p q : Plan) (t t′ t″ : Slots) (at : ℕ → ℕ → Bool) (px : Pi
           let z = seen-shows p d u v h hu hv e in
           let c = stowed .copied x y _ _ (w e) (shows-behind (m .width) p t′ x y d u v (z .shows) ∙ cond-true _ (Kept (store-x (m .width) t′ d u v) (store-y (m .width) t′ d u v)) Alone k) in
           ap (λ n. n % 2 ^ s .depth) c ∙ mod-eq-of-lt (small x y) ∙ sym (held-seen s m p t d u v e) ∙ holds d h u v hu hv
+
       off : seen p d u v ≡ false → m′ .at (store-x (m .width) t′ d u v) (store-y (m .width) t′ d u v) % 2 ^ s .depth ≡ px d u v
       off e =
           let r = real p d u v h hu hv in
           let n : ℕ = patch-at d (u / 16) (v / 16) in
           let had : has-slot t n ≡ true = slots .fits n (real-patch d u v r) ∙ unseen-hidden p d u v h hu hv e in
           let c = stowed .others (store-x (m .width) t′ d u v) (store-y (m .width) t′ d u v) (λ x y i b.
-            let z = keeps-pixel (m .width) p t′ x y _ _ d u v (behind-keeps (m .width) p t′ x y _ _ b) r refl refl in
-            both-ways (seen p d u v) e (shows-seen p x y d u v z (work .on x y i))) in
+          let z = keeps-pixel (m .width) p t′ x y _ _ d u v (behind-keeps (m .width) p t′ x y _ _ b) r refl refl in
+          both-ways (seen p d u v) e (shows-seen p x y d u v z (work .on x y i))) in
           ap (λ n. n % 2 ^ s .depth) (c ∙ same-place (m .width) t t′ m d u v (slots .kept n (real-patch d u v r) had)) ∙ sym (held-unseen s m p t d u v e) ∙ holds d h u v hu hv
 
   -- A pixel that shows before, and after is obscured or shows at a place worked on, shows before at a place worked on.
@@ -211,11 +191,14 @@ module _ (p q : Plan) (t t′ t″ : Slots) (at : ℕ → ℕ → Bool) (px : Pi
         where
           z : Seen-at q d u v
           z = seen-shows q d u v h hu hv e
+
           there : (b : Bool) → in-store t′ d u v ≡ b → behind (m .width) q t′ (place-x q d u) (place-y q d v) ≡ cond b (Kept (store-x (m .width) t′ d u v) (store-y (m .width) t′ d u v)) Alone
           there b k = shows-behind (m .width) q t′ (place-x q d u) (place-y q d v) d u v (seen-shows q d u v h hu hv e .shows) ∙ ap (λ c. cond c (Kept (store-x (m .width) t′ d u v) (store-y (m .width) t′ d u v)) Alone) k
+
           by : (c : Backing) → behind (m .width) q t′ (place-x q d u) (place-y q d v) ≡ c
               → s′ .at (place-x q d u) (place-y q d v) ≡ cond (changes c) (taken (s .depth) m′ c) (s .at (place-x q d u) (place-y q d v))
           by c k = painted-there (place-x q d u) (place-y q d v) ∙ ap₂ (λ b c. cond (b && changes c) (taken (s .depth) m′ c) (s .at (place-x q d u) (place-y q d v))) w k
+
           go : (b : Bool) → in-store t′ d u v ≡ b → s′ .at (place-x q d u) (place-y q d v) ≡ px d u v
           go true k = by (Kept (store-x (m .width) t′ d u v) (store-y (m .width) t′ d u v)) (there true k) ∙ in-whole k (λ _. w)
           go false k = by Alone (there false k) ∙ alone k (cases-bool (seen p d u v))
@@ -272,6 +255,7 @@ module _ (p q : Plan) (t t′ t″ : Slots) (at : ℕ → ℕ → Bool) (px : Pi
         never : (x y : ℕ) → inside (sizes s) (pos x) (pos y) ≡ false → (b : Bool) → at x y ≡ b → b ≡ false
         never x y e true w = absurd (both-ways (inside (p .screen) (pos x) (pos y)) (ap (λ z. inside z (pos x) (pos y)) fit ∙ e) (work .on x y w))
         never x y e false w = refl
+
         bare : (x y : ℕ) → inside (sizes s) (pos x) (pos y) ≡ true → covered (layers-in q) (pos x) (pos y) ≡ false → (b : Bool) → at x y ≡ b
             → s′ .at x y ≡ cond (covered (layers-in p) (pos x) (pos y)) 0 (s .at x y)
         bare x y e n true w =

@@ -2,12 +2,12 @@
 use mathlib.Core.Path.{_≡_, refl, sym, ap, ap₂, subst, _∙_}
 use mathlib.Core.Bool.{Bool, true, false, cond, _&&_, _||_}
 use mathlib.Core.Logic.{⊎-elim}
-use Prim.Native.Nat.{ℕ, zero, suc, _+_, _*_, _/_, _^_, _<_, _≤_}
+use Prim.Native.Nat.{ℕ, zero, suc, _*_, _/_, _^_, _<_, _≤_}
 use native.Mathlib.Omega.{arith}
 use native.Mathlib.Nat.{mod-lt}
 use lib.Dec.{eqb, ltb}
 use lib.Pow.{pow-mono}
-use Rattle.std.proofs.shelf.Tests.{and-parts, and-from, and-left, and-right, or-cases, or-left, or-right, both-ways, eqb-true, eq-eqb, cond-true, cond-false}
+use Rattle.std.proofs.shelf.Tests.{and-parts, and-from, and-left, or-cases, or-left, or-right, both-ways, eqb-true, eq-eqb, cond-true, cond-false}
 use Rattle.std.proofs.shelf.Bits.{pow-pos}
 use Rattle.std.specs.declared.option.Option.{Option}
 use Rattle.std.specs.declared.option.Option.the-variants.{Some, None}
@@ -16,10 +16,11 @@ use Rattle.raster.proofs.Paints.{painted-at, painted-sizes, painted-same, paint
 use Rattle.paper.specs.Slots.{slots-of}
 use Rattle.plan.specs.declared.plan.Plan.{Plan}
 use Rattle.plan.specs.declared.slots.Slots.{Slots}
+use Rattle.hold.specs.Spots.{Settable}
 use Rattle.moving.specs.declared.backing.Backing.{Backing}
 use Rattle.moving.specs.declared.backing.Backing.the-variants.{Bare, Alone, Kept}
-use Rattle.moving.specs.Phases.{Fitting, store-x, store-y, just, behind, Stowed, changes, taken, repainted}
-use Rattle.moving.proofs.Places.{behind-one, Within, place-within, Keeps, behind-keeps}
+use Rattle.moving.specs.Phases.{Fitting, store-x, just, behind, Stowed, changes, taken, repainted}
+use Rattle.moving.proofs.Places.{behind-one, Within, place-within, behind-keeps}
 
 -- Values of a picture fit its depth.
 abbrev pub Small : Picture → Type 0
@@ -75,6 +76,7 @@ module _ (s : Picture) (p : Plan) (t : Slots) where
     where
       early : (x y : ℕ) → behind (m .width) p t x y ≡ behind (m′ .width) p t x y
       early x y = ap (λ z. behind (z .width) p t x y) (sym (d .size))
+
       late : (x y a b : ℕ) → (f x y || g x y) ≡ true → behind (m .width) p t x y ≡ Kept a b → (c : Bool) → g x y ≡ c → m″ .at a b ≡ s .at x y
       late x y a b h k true c = e .copied x y a b c (sym (early x y) ∙ k)
       late x y a b h k false c =
@@ -159,12 +161,12 @@ module _ (s m : Picture) (p : Plan) (t : Slots) (x y w : ℕ) (fit : Fitting s m
       subst (λ (n : ℕ). Within s m n b) (sym (k .column)) (subst (λ (n : ℕ). Within s m (store-x (m .width) t (k .client) (k .u) (k .v)) n) (sym (k .row)) i)
 
   pub stow-kept : (a b v : ℕ) (m′ : Picture) → r ≡ Kept a b → Small s → v ≡ s .at x y
-      → (a < m .width → b < m .height → v < 2 ^ m .depth → m′ ≡ with-pixel m a b v) → Stowed s p t (just x y) m m′
+      → (Settable m a b v → m′ ≡ with-pixel m a b v) → Stowed s p t (just x y) m m′
   stow-kept a b v m′ e small ev h =
       let i = kept-within a b e in
       let less : s .at x y < 2 ^ s .depth = small x y in
       let deep : 2 ^ s .depth ≤ 2 ^ m .depth = pow-mono (i .deep) in
-      stowed-one s p t x y a b m m′ (behind-is ∙ e) (h (i .across) (i .down) (omega arith) ∙ ap (with-pixel m a b) ev)
+      stowed-one s p t x y a b m m′ (behind-is ∙ e) (h (record { across = i .across; down = i .down; small = omega arith }) ∙ ap (with-pixel m a b) ev)
 
   pub stow-rest : ((a b : ℕ) → r ≡ Kept a b → ⊥) → Stowed s p t (just x y) m m
   stow-rest n = stowed-skip s p t x y m (λ a b k. n a b (sym behind-is ∙ k))
@@ -184,16 +186,16 @@ none-taken Alone n e = refl
 none-taken (Kept a b) n e = absurd (let z : _≡_ {A = ℕ} 0 1 = cc in omega arith)
 
 module _ (s m : Picture) (p : Plan) (t : Slots) (x y w d : ℕ) (fit : Fitting s m p t) (ew : w ≡ m .width) (ed : d ≡ s .depth) (r : Backing) (er : (0 < t .places → 16 ≤ w) → r ≡ behind w p t x y) (o : Option ℕ)
-    (eo : ((a b : ℕ) → r ≡ Kept a b → (a < m .width) × (b < m .height)) → o ≡ cond (changes r) (Some (taken d m r)) None) where
+    (eo : o ≡ cond (changes r) (Some (taken d m r)) None) where
   got : o ≡ cond (changes r) (Some (taken (s .depth) m r)) None
-  got = eo (λ a b e. let i = kept-within s m p t x y w fit ew r er a b e in (i .across, i .down)) ∙ ap (λ n. cond (changes r) (Some (taken n m r)) None) ed
+  got = eo ∙ ap (λ n. cond (changes r) (Some (taken n m r)) None) ed
 
-  pub paint-some : (v : ℕ) (s′ : Picture) → o ≡ Some v → x < s .width → y < s .height → (x < s .width → y < s .height → v < 2 ^ s .depth → s′ ≡ with-pixel s x y v) → s′ ≡ repainted m p t (just x y) s
+  pub paint-some : (v : ℕ) (s′ : Picture) → o ≡ Some v → x < s .width → y < s .height → (Settable s x y v → s′ ≡ with-pixel s x y v) → s′ ≡ repainted m p t (just x y) s
   paint-some v s′ e hx hy h =
       let q = some-taken (changes r) v (taken (s .depth) m r) (sym e ∙ got) in
       let b = behind-is s m p t x y w fit ew r er in
       let small : v < 2 ^ s .depth = subst (λ (n : ℕ). n < 2 ^ s .depth) (sym (q .1)) (taken-small (s .depth) m r) in
-      h hx hy small ∙ repainted-one m p t x y v s (ap changes b ∙ q .0) (q .1 ∙ ap (taken (s .depth) m) (sym b))
+      h (record { across = hx; down = hy; small = small }) ∙ repainted-one m p t x y v s (ap changes b ∙ q .0) (q .1 ∙ ap (taken (s .depth) m) (sym b))
 
   pub paint-none : o ≡ None → s ≡ repainted m p t (just x y) s
   paint-none e = sym (repainted-skip m p t x y s (behind-is s m p t x y w fit ew r er ∙ none-taken r (taken (s .depth) m r) (sym e ∙ got)))

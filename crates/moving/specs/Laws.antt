@@ -13,7 +13,8 @@ use Rattle.plan.specs.declared.frame.Frame.{Frame}
 use Rattle.plan.specs.declared.plan.Plan.{Plan}
 use Rattle.plan.specs.declared.slots.Slots.{Slots}
 use Rattle.plan.specs.Frames.{has}
-use Rattle.plan.specs.Plans.{outline, listed, layers-in, frame-in, patch-of, has-slot}
+use Rattle.plan.specs.Plans.{outline, listed, layers-in, frame-in, hidden-patch, patch-of, needs, has-slot, Fits}
+use Rattle.plan.specs.Allots.{Supplied, Retained}
 use Rattle.plan.specs.Arranged.{Arranged, Same-frames, Other-frames, cornered, can-open}
 use Rattle.hold.specs.Held.{paper-of}
 use Rattle.moving.specs.Phases.{Fitting, on-screen, Stowed, repainted, Blanked}
@@ -31,6 +32,12 @@ pub record Leaves (s m : Picture) (p : Plan) (t : Slots) (s′ m′ : Picture) (
   pub screen : s′ ≡ screen-after s (paper-of s m p t) d
 
 pub record Moving-laws : Type 0 where
+  -- A table that serves the patches in need, and what is left of it for those hidden after, are the tables of a call. A move has a slot for
+  -- each patch of the layer, and a close needs no other slots.
+  pub supplied : (p q : Plan) (t t′ t″ : Slots) (moved : ℕ) → Fits p t → Supplied t (needs p q moved) t′ → Retained t′ (hidden-patch q) t″ → Slotted p q t t′ t″ × Fits q t″
+  pub all-supplied : (p q : Plan) (t t′ : Slots) (c : ℕ) → Supplied t (needs p q c) t′ → (k : ℕ) → k < 2400 → patch-of q c k ≡ true → has-slot t′ k ≡ true
+  pub none-supplied : (p q : Plan) (t t″ : Slots) (c : ℕ) → Fits p t → q .screen ≡ p .screen → layers-in q ≡ without c (layers-in p) → Retained t (hidden-patch q) t″
+      → Slotted p q t t t″ × Fits q t″
   -- Raise, lower and close: stow the client's frame, and repaint it.
   pub raised : (s m s′ m′ : Picture) (p q : Plan) (t t′ t″ : Slots) (c : ℕ) → Begins s m p q t t′ t″ → has c (listed p) ≡ true
       → Arranged p q (without c (layers-in p) ++ only c (layers-in p)) (λ d. has d (listed p)) → Same-frames p q

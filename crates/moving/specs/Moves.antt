@@ -1,7 +1,6 @@
 -- What has to hold of two arrangements, of the tables of slots on the way from one to the other, and of the places worked on.
 use mathlib.Core.Path.{_≡_}
 use mathlib.Core.Bool.{Bool, true, false, cond, _||_}
-use mathlib.Core.List.{List}
 use Prim.Native.Nat.{ℕ, _<_}
 use lib.Dec.{eqb}
 use lib.IntN.{pos}

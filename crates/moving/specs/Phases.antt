@@ -1,7 +1,7 @@
 -- What stands behind a screen place, and what stowing, repainting and blanking leave.
 use mathlib.Core.Path.{_≡_}
 use mathlib.Core.Bool.{Bool, true, false, cond, _&&_}
-use Prim.Native.Nat.{ℕ, _+_, _*_, _/_, _%_, _^_, _<_}
+use Prim.Native.Nat.{ℕ, _+_, _/_, _%_, _^_, _<_}
 use lib.Dec.{eqb}
 use lib.IntN.{ℤ, pos, natAbs, _-ℤ_}
 use Rattle.std.specs.declared.option.Option.{Option}
@@ -16,7 +16,7 @@ use Rattle.paper.specs.Slots.{slots-of}
 use Rattle.plan.specs.declared.frame.Frame.{Frame}
 use Rattle.plan.specs.declared.plan.Plan.{Plan}
 use Rattle.plan.specs.declared.slots.Slots.{Slots}
-use Rattle.plan.specs.Plans.{layers-in, patch-at, slot-of, has-slot}
+use Rattle.plan.specs.Plans.{layers-in, patch-at, has-slot}
 use Rattle.hold.specs.Spots.{slot-x, slot-y, own-slot}
 use Rattle.moving.specs.declared.backing.Backing.{Backing}
 use Rattle.moving.specs.declared.backing.Backing.the-variants.{Bare, Alone, Kept}

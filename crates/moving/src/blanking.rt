@@ -1,6 +1,6 @@
 //! Blanking: the slots of a client's patches are set to 0.
 ghost use mathlib.Core.Path.{_≡_};
-ghost use Prim.Native.Nat.{ℕ, _+_, _*_, _/_, _<_, _≤_};
+ghost use Prim.Native.Nat.{_+_, _*_, _/_, _<_, _≤_};
 ghost use Rattle.raster.specs.Picture.{sizes, painted};
 ghost use Rattle.moving.specs.Phases.{in-slot, Blanked};
 use crate::pixel::signed;
@@ -15,7 +15,14 @@ fn blank_slot<T: Bitmap>(store: &mut T, k: u16)
     ensures blanks { λ _. ⌜ (k < (T·Bitmap .picture (now (store .entry)) .width / 16) * (T·Bitmap .picture (now (store .entry)) .height / 16) → T·Bitmap .picture (now (store .exit)) ≡ painted (T·Bitmap .picture (now (store .entry))) (in-slot (T·Bitmap .picture (now (store .entry)) .width) k) (λ _ _. 0)) ⌝ }
 {
     let across = (store.size().width / 16).max(1);
-    let _ = store.fill(3, 0, signed(16 * (k % across)), signed(16 * (k / across)), 16, 16);
+    let _ = store.fill(
+        3,
+        0,
+        signed(16 * (k % across)),
+        signed(16 * (k / across)),
+        16,
+        16,
+    );
 }
 
 /// Sets the slots of a client's patches to 0.

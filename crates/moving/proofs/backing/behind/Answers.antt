@@ -1,22 +1,20 @@
-use mathlib.Core.Path.{_≡_, refl, sym, ap, ap₂, _∙_}
+use mathlib.Core.Path.{_≡_, sym, ap₂, _∙_}
 use Prim.Native.Nat.{ℕ, _<_}
 use native.Mathlib.Omega.{arith}
 use borrow.Author.Needs.{needs}
-use lib.IntN.{ℤ, pos, _+ℤ_}
+use lib.IntN.{pos}
 use mir.Syntax.{w16}
-use mir.Val.{toZ, ofZ, SFits}
+use mir.Val.{toZ, SFits}
 use Rattle.std.proofs.shelf.Signed.{ints}
 use Rattle.paper.specs.Layers.{topmost}
 use Rattle.paper.specs.Desk.{client-if}
 use Rattle.plan.specs.Plans.{layers-in}
-use Rattle.moving.proofs.Places.{Found, found, no-client, bare-behind}
+use Rattle.moving.proofs.Places.{found, no-client, bare-behind}
+use Rattle.moving.proofs.Touched.{as-was}
 use Rattle.moving.proofs.backing.behind.Needs as need
 
 narrow : (x : ℕ) → x < 32768 → toZ w16 x ≡ pos x
 narrow x h = omega (arith, ints)
-
-back : (x : ℤ) → SFits w16 x → toZ w16 (ofZ w16 x) ≡ x
-back x f = omega (arith, ints)
 
 pub kept-pixel-requires : need.kept-pixel-requires
 kept-pixel-requires c κs =
@@ -24,7 +22,7 @@ kept-pixel-requires c κs =
     let fx : SFits w16 (c .frame-frame .result .x) = search needs in
     let fy : SFits w16 (c .frame-frame .result .y) = search needs in
     let f = found (a .plan .now) (a .x) (a .y) (c .in-Some .d) (c .offset .result) (c .offset-in-Some .result) _ _ (c .frame-frame .result) _ _ (narrow (a .x) (c .pre .across)) (narrow (a .y) (c .pre .down))
-      (c .in-Some .ensures tt) (c .frame-frame .ensures) (back _ fx) (back _ fy) (c .offset .ensures) (c .offset-in-Some .ensures) in
+    (c .in-Some .ensures tt) (c .frame-frame .ensures) (as-was _ fx) (as-was _ fy) (c .offset .ensures) (c .offset-in-Some .ensures) in
     record { client = f .client; column = f .column; row = f .row }
 
 pub returns-in-Some : need.returns-in-Some
@@ -33,7 +31,7 @@ returns-in-Some c h =
     let fx : SFits w16 (c .frame-frame .result .x) = search needs in
     let fy : SFits w16 (c .frame-frame .result .y) = search needs in
     let f = found (a .plan .now) (a .x) (a .y) (c .in-Some .d) (c .offset .result) (c .offset-in-Some .result) _ _ (c .frame-frame .result) _ _ (narrow (a .x) (c .pre .across)) (narrow (a .y) (c .pre .down))
-      (c .in-Some .ensures tt) (c .frame-frame .ensures) (back _ fx) (back _ fy) (c .offset .ensures) (c .offset-in-Some .ensures) in
+    (c .in-Some .ensures tt) (c .frame-frame .ensures) (as-was _ fx) (as-was _ fy) (c .offset .ensures) (c .offset-in-Some .ensures) in
     c .kept-pixel .ensures h ∙ f .is (a .width) (a .slots .now)
 
 pub returns-in-None : need.returns-in-None

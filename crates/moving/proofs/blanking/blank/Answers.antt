@@ -1,9 +1,8 @@
 use mathlib.Core.Path.{_≡_, refl, sym, ap, subst, _∙_}
-use Prim.Native.Nat.{ℕ, _+_, _*_, _/_, _<_, _≤_}
+use Prim.Native.Nat.{ℕ, _+_, _*_}
 use native.Mathlib.Omega.{arith}
 use Rattle.std.proofs.shelf.Tests.{ltb-true}
 use Rattle.raster.specs.Picture.{sizes}
-use Rattle.raster.specs.declared.size.Size.{Size}
 use Rattle.moving.proofs.Blanks.{Blanking, blank-none, blank-all, blank-turn, blank-past, slot-found}
 use Rattle.moving.proofs.blanking.blank.Needs as need
 use Rattle.moving.proofs.blanking.blank.Needs.{in-Some, in-rest}
@@ -27,7 +26,7 @@ loop-i-again g c =
     let m′ = g .T·Bitmap .picture (l .store) in
     let n : ℕ = 300 * c .min .result + l .i in
     elim (c .match-slot .came) [
-      in-Some w ↦ (
+      | in-Some w ↦ (
         subst (g .T·Bitmap .keeps (a .store .now)) (sym (w .store-is)) (g .T·Bitmap·met .joins (a .store .now) (l .store) (w .blank-slot .last .store) (l .inv .0) (w .blank-slot .ensures .keeps)),
         ap (λ z. sizes (g .T·Bitmap .picture z)) (w .store-is) ∙ w .blank-slot .ensures .size ∙ l .inv .1,
         λ h f.
@@ -35,7 +34,7 @@ loop-i-again g c =
             blank-turn (a .slots .now) (a .c) (l .i) n m m′ f h (c .loop-i-test .taken) en (l .inv .1) (l .inv .2 h f) (w .in-Some .k) (g .T·Bitmap .picture (c .match-slot .store)) (w .in-Some .ensures tt)
             (λ k. ap (g .T·Bitmap .picture) (w .store-is) ∙ w .blank-slot .ensures .blanks k),
       )
-    | in-rest w ↦ (
+      | in-rest w ↦ (
         subst (g .T·Bitmap .keeps (a .store .now)) (sym (w .store-is)) (l .inv .0),
         ap (λ z. sizes (g .T·Bitmap .picture z)) (w .store-is) ∙ l .inv .1,
         λ h f.

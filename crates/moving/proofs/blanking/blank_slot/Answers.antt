@@ -1,5 +1,5 @@
-use mathlib.Core.Path.{_≡_, refl, sym, ap, _∙_}
-use Prim.Native.Nat.{ℕ, _<_, _≤_, _*_, _/_, _%_}
+use mathlib.Core.Path.{_≡_, ap, _∙_}
+use Prim.Native.Nat.{_*_, _/_, _%_}
 use native.Mathlib.Omega.{arith}
 use lib.IntN.{pos}
 use Rattle.raster.specs.Picture.{sizes}
@@ -7,7 +7,7 @@ use Rattle.hold.specs.Spots.{slot-x, slot-y}
 use Rattle.raster.specs.declared.size.Size.{Size}
 use Rattle.raster.proofs.Lawful.{bitmap-laws}
 use Rattle.moving.proofs.Touched.{as-passed}
-use Rattle.moving.proofs.Blanks.{Square, square, slot-filled}
+use Rattle.moving.proofs.Blanks.{square, slot-filled}
 use Rattle.moving.proofs.blanking.blank_slot.Needs as need
 
 pub returns : need.returns

@@ -1,11 +1,11 @@
-use mathlib.Core.Path.{_≡_, refl, sym, ap, subst, _∙_}
-use Prim.Native.Nat.{ℕ, _+_, _<_, _≤_}
+use mathlib.Core.Path.{_≡_, refl, sym, ap, _∙_}
+use Prim.Native.Nat.{_+_}
 use native.Mathlib.Omega.{arith}
 use borrow.Author.Needs.{needs}
 use mir.Syntax.{w16}
 use mir.Val.{SFits}
 use Rattle.raster.specs.declared.size.Size.{Size}
-use Rattle.moving.specs.Phases.{in-row, on-screen, Stowed}
+use Rattle.moving.specs.Phases.{in-row, on-screen}
 use Rattle.moving.proofs.Stows.{stowed-none, stowed-as}
 use Rattle.moving.proofs.Areas.{rows-so-far, rows-none, rows-more, stow-more, area-all}
 use Rattle.moving.proofs.Touched.{as-was}

@@ -1,4 +1,4 @@
-use mathlib.Core.Path.{_≡_, refl, sym, ap, _∙_}
+use mathlib.Core.Path.{refl, ap}
 use Rattle.raster.specs.declared.size.Size.{Size}
 use Rattle.moving.proofs.Stows.{stow-kept, stow-rest}
 use Rattle.moving.proofs.stowing.stow_pixel.Needs as need
@@ -9,10 +9,10 @@ returns-in-Kept g c =
     let s = g .S·Bitmap .picture (a .screen .now) in
     let m = g .T·Bitmap .picture (a .store .now) in
     record {
-      keeps = c .put .ensures .keeps;
-      size = c .put .ensures .size;
+      keeps = c .set-pixel .ensures .rest;
+      size = c .set-pixel .ensures .size;
       stows = λ f. stow-kept s m (a .plan .now) (a .slots .now) (a .x) (a .y) _ f (ap (λ (z : Size). z .width) (c .size-width .ensures)) _ (c .behind .ensures)
-        (c .in-Kept .a) (c .in-Kept .b) (c .get .result) _ (c .in-Kept .is) (g .S·Bitmap·met .sound (a .screen .now) .values) (c .get .ensures (c .pre .across) (c .pre .down)) (c .put .ensures .after);
+          (c .in-Kept .a) (c .in-Kept .b) (c .pixel .result) _ (c .in-Kept .is) (g .S·Bitmap·met .sound (a .screen .now) .values) (c .pixel .ensures) (c .set-pixel .ensures .after);
     }
 
 pub returns-in-rest : need.returns-in-rest
