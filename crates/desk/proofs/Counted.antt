@@ -41,7 +41,7 @@ passing-same : (test other : ℕ → Bool) → ((k : ℕ) → k < 2400 → test 
 passing-same test other e =
     counted-tally test 2400 ∙ tally-alike (λ k. cond (test k) 1 0) (λ k. cond (other k) 1 0) 2400 (λ k l. ap (λ z. cond z 1 0) (e k l)) ∙ sym (counted-tally other 2400)
 
-empty-count : (size : Size) (slots : ℕ) → hidden-count (new-desk size slots) ≡ 0
+pub empty-count : (size : Size) (slots : ℕ) → hidden-count (new-desk size slots) ≡ 0
 unfolding hidden-count
 empty-count size slots = refl
 

@@ -8,3 +8,4 @@ pub mod Stamped
 pub mod Settles
 pub mod Reordered
 pub mod Moved
+pub mod Fresh
