@@ -25,7 +25,7 @@ use Rattle.plan.specs.Plans.{frame-in}
 use Rattle.desk.specs.declared.book.Book.{Book}
 use Rattle.desk.specs.Carried.{carry}
 use Rattle.desk.specs.Desks.{made-for, on-pictures}
-use Rattle.desk.proofs.Checks.{two-refuse, two-pass, one-check, passed-open}
+use Rattle.desk.proofs.Checks.{first-refuse, first-pass, one-check, passed-open}
 use Rattle.desk.proofs.Fits.{fitting, open-listed, open-pane}
 
 module _ (screen store : Picture) (b : Book) (c : ℕ) where
@@ -33,7 +33,7 @@ module _ (screen store : Picture) (b : Book) (c : ℕ) where
   pub check-refused : (rest : List (Option DeskFault)) (f : DeskFault)
       → _≡_ {A = Result (Unit {0}) DeskFault} (Err f) (unless (first-fault (no-client c ∷ not-open c (on-pictures screen store b) ∷ [])) tt)
       → first-fault (no-client c ∷ not-open c (on-pictures screen store b) ∷ rest) ≡ Some f
-  check-refused rest f e = two-refuse (no-client c) (not-open c (on-pictures screen store b)) rest f (unless-err (first-fault (no-client c ∷ not-open c (on-pictures screen store b) ∷ [])) tt f e)
+  check-refused rest f e = first-refuse (no-client c ∷ not-open c (on-pictures screen store b) ∷ []) rest f (unless-err (first-fault (no-client c ∷ not-open c (on-pictures screen store b) ∷ [])) tt f e)
 
   -- the client has an open layer
   module _ (ok : _≡_ {A = Result (Unit {0}) DeskFault} (Ok tt) (unless (first-fault (no-client c ∷ not-open c (on-pictures screen store b) ∷ [])) tt)) where
@@ -44,7 +44,7 @@ module _ (screen store : Picture) (b : Book) (c : ℕ) where
     check-open = passed-open c (on-pictures screen store b) passes
 
     pub check-rest : (rest : List (Option DeskFault)) → first-fault (no-client c ∷ not-open c (on-pictures screen store b) ∷ rest) ≡ first-fault rest
-    check-rest rest = two-pass (no-client c) (not-open c (on-pictures screen store b)) rest passes
+    check-rest rest = first-pass (no-client c ∷ not-open c (on-pictures screen store b) ∷ []) rest passes
 
     -- the last check is that of the client's own bitmap
     pub own-check : (call : Bitmap-call) → first-fault (no-client c ∷ not-open c (on-pictures screen store b) ∷ own-bitmap c (on-pictures screen store b) call ∷ [])

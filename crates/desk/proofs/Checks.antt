@@ -1,7 +1,7 @@
 -- The checks of calls, in their order.
 use mathlib.Core.Path.{_≡_, refl, sym, ap, _∙_}
 use mathlib.Core.Bool.{Bool, true, false, not}
-use mathlib.Core.List.{List, [], _∷_}
+use mathlib.Core.List.{List, [], _∷_, _++_}
 use mathlib.Core.Logic.{⊎-elim}
 use Prim.Native.Nat.{ℕ}
 use lib.Dec.{ltb}
@@ -15,15 +15,23 @@ use Rattle.paper.specs.declared.DeskFault.{DeskFault}
 use Rattle.paper.specs.Layers.{Desk, is-open}
 use Rattle.paper.specs.Desk.{no-client, not-open, because}
 
-pub two-refuse : {F : Type 0} (a b : Option F) (rest : List (Option F)) (f : F) → first-fault (a ∷ b ∷ []) ≡ Some f → first-fault (a ∷ b ∷ rest) ≡ Some f
-two-refuse (Some x) b rest f e = e
-two-refuse None (Some y) rest f e = e
-two-refuse None None rest f e = absurd (some-none (sym e))
+-- some checks before others
+pub first-refuse : {F : Type 0} (checks rest : List (Option F)) (f : F) → first-fault checks ≡ Some f → first-fault (checks ++ rest) ≡ Some f
+first-refuse [] rest f e = absurd (some-none (sym e))
+first-refuse (Some x ∷ checks) rest f e = e
+first-refuse (None ∷ checks) rest f e = first-refuse checks rest f e
 
-pub two-pass : {F : Type 0} (a b : Option F) (rest : List (Option F)) → first-fault (a ∷ b ∷ []) ≡ None → first-fault (a ∷ b ∷ rest) ≡ first-fault rest
-two-pass (Some x) b rest e = absurd (some-none e)
-two-pass None (Some y) rest e = absurd (some-none e)
-two-pass None None rest e = refl
+pub first-pass : {F : Type 0} (checks rest : List (Option F)) → first-fault checks ≡ None → first-fault (checks ++ rest) ≡ first-fault rest
+first-pass [] rest e = refl
+first-pass (Some x ∷ checks) rest e = absurd (some-none e)
+first-pass (None ∷ checks) rest e = first-pass checks rest e
+
+-- three tests that refuse nothing
+pub none-refuses : {F : Type 0} (a b c : Bool) (f g h : F) → first-fault (refuse-if a f ∷ refuse-if b g ∷ refuse-if c h ∷ []) ≡ None → (a ≡ false) × (b ≡ false) × (c ≡ false)
+none-refuses true b c f g h e = absurd (some-none e)
+none-refuses false true c f g h e = absurd (some-none e)
+none-refuses false false true f g h e = absurd (some-none e)
+none-refuses false false false f g h e = (refl, refl, refl)
 
 pub one-check : {F : Type 0} (o : Option F) → first-fault (o ∷ []) ≡ o
 one-check (Some f) = refl

@@ -9,3 +9,4 @@ pub mod Settles
 pub mod Reordered
 pub mod Moved
 pub mod Fresh
+pub mod Opens

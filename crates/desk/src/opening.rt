@@ -73,4 +73,50 @@ impl<S: Bitmap, T: Bitmap> Desk<S, T> {
             (0, places)
         }
     }
+
+    /// Refuses a client above 7, one that has an open layer, and a size beyond 1 to 320 by 1 to 240.
+    fn check_new(&self, c: u8, w: u16, h: u16) -> Result<(), DeskFault>
+        ensures { λ r. ⌜ r ≡ unless (first-fault (no-client c ∷ already-open c (on-paper S·Bitmap T·Bitmap (now (self .entry))) ∷ beyond-size c w h ∷ [])) tt ⌝ }
+    {
+        if c > 7 {
+            return Err(because(Refusal::ClientAboveSeven, c));
+        }
+        if self.is_open(c) {
+            return Err(because(Refusal::AlreadyOpen, c));
+        }
+        if w == 0 || w > 320 || h == 0 || h > 240 {
+            return Err(because(Refusal::OpenBeyondSize, c));
+        }
+        Ok(())
+    }
+
+    /// The book, or that of a new desk if it was made for bitmaps of other sizes.
+    fn current(&self) -> Book
+        ensures fits { λ r. ⌜ made-for (S·Bitmap .picture (now (self .entry) .screen)) (T·Bitmap .picture (now (self .entry) .store)) r ≡ true ⌝ }
+        ensures same { λ r. ⌜ on-pictures (S·Bitmap .picture (now (self .entry) .screen)) (T·Bitmap .picture (now (self .entry) .store)) r ≡ on-paper S·Bitmap T·Bitmap (now (self .entry)) ⌝ }
+    {
+        if self.fits() {
+            return self.book;
+        }
+        let size = self.screen.size();
+        Book::fresh(size, slots_there(self.store.size(), size.depth))
+    }
+
+    /// Opens a layer of the client on top of all others, 0 everywhere.
+    pub fn open(&mut self, c: u8, x: i16, y: i16, w: u16, h: u16) -> Result<(), DeskFault>
+        ensures does { λ r. ⌜ Does (state-of S·Bitmap T·Bitmap (now (self .entry))) (open-layer c x y w h) (done r) (state-of S·Bitmap T·Bitmap (now (self .exit))) ⌝ }
+        ensures rest { λ _. ⌜ Keeps S·Bitmap T·Bitmap (now (self .entry)) (now (self .exit)) ⌝ }
+        ensures refused { λ r. ⌜ Unaltered r (now (self .entry)) (now (self .exit)) ⌝ }
+    {
+        self.check_new(c, w, h)?;
+        let book = self.current();
+        let frame = Frame { x, y, w, h };
+        let after = book.plan.opened(c, frame);
+        let slots = book.slots_for(c, &after, 255)?;
+        stow(&self.screen, &mut self.store, &book.plan, &slots, frame);
+        blank(&mut self.store, &slots, c);
+        let _ = self.screen.fill(3, 0, x, y, w, h);
+        self.book = Book::settled(after, &slots);
+        Ok(())
+    }
 }
