@@ -1,6 +1,6 @@
 -- A client's calls on its layer, and the same calls of its pane.
 use mathlib.Core.Path.{_≡_, refl, sym, ap, _∙_}
-use mathlib.Core.Bool.{Bool, true, false, _&&_}
+use mathlib.Core.Bool.{true, false, _&&_}
 use mathlib.Core.List.{[], _∷_}
 use mathlib.Core.Logic.{⊎-elim}
 use Prim.Native.Nat.{ℕ, _^_, _<_}
@@ -8,23 +8,22 @@ use native.Mathlib.Omega.{arith}
 use lib.Dec.{ltb, leb, eqb}
 use lib.IntN.{ℤ, pos, natAbs}
 use Rattle.std.specs.Options.{isSome}
-use Rattle.std.specs.Results.{valueOr}
 use Rattle.std.specs.declared.option.Option.the-variants.{None}
 use Rattle.std.specs.declared.result.Result.{Result}
 use Rattle.std.specs.declared.result.Result.the-variants.{Ok}
 use Rattle.std.proofs.shelf.Signed.{ints}
-use Rattle.std.proofs.shelf.Tests.{cases-bool, both-ways, ltb-true, le-ltb, lt-leb}
+use Rattle.std.proofs.shelf.Tests.{cases-bool, both-ways, le-ltb, lt-leb}
 use Rattle.std.proofs.shelf.Ways.{tells}
-use Rattle.raster.specs.Picture.{Picture, sizes, with-pixel}
-use Rattle.raster.specs.Blt.{everywhere, inside, in-rectangle, concerned, blt}
-use Rattle.raster.specs.Calls.{Bitmap-call, read-at, write-at, fill-with, unless, bitmap-fault, bitmap-change, bitmap-after, fill-transfer}
+use Rattle.raster.specs.Picture.{Picture, sizes}
+use Rattle.raster.specs.Blt.{inside, in-rectangle, concerned, blt}
+use Rattle.raster.specs.Calls.{Bitmap-call, read-at, write-at, fill-with, unless, bitmap-fault, bitmap-after}
 use Rattle.raster.specs.declared.fault.Fault.{Fault}
 use Rattle.raster.specs.declared.size.Size.{Size}
 use Rattle.raster.proofs.Accepts.{some-none, unless-ok, read-within, write-as-read, fill-accepted, after-accepted}
 use Rattle.raster.proofs.Called.{read-found, write-found}
 use Rattle.raster.proofs.Lawful.{bitmap-laws}
 use Rattle.raster.proofs.Paints.{painted-same}
-use Rattle.paper.specs.Layers.{Desk, is-open, pane, pixels-of}
+use Rattle.paper.specs.Layers.{Desk, is-open, pane}
 use Rattle.paper.specs.Desk.{Call, read-layer, repaint, carried, own-bitmap, fault-of, change, after, answer}
 use Rattle.paper.proofs.Draws.{Same-drawing, fills, scrolls, open-checks, shut-checks}
 use Rattle.paper.proofs.Pane.{repaint-own, painted-pane}
@@ -72,6 +71,11 @@ module _ (screen store : Picture) (b : Book) (c : ℕ) where
       let o = pixel-open u (read-found p x y u v e .across) in
       answer-accepted d (read-layer c x y) (open-checks c d (own-bitmap c d (read-at x y)) (open-client o) o ∙ ap (carried c) (z .0))
       ∙ ap Ok (sym (ap (λ (w : ℕ × ℕ). p .at (w .0) (w .1)) (z .1)))
+
+-- what a check of a place answers, at the pane's own size
+pub at-size : {A : Type 0} {r : Result A Fault} {s : Size} (p : Picture) (call : Bitmap-call) (a : A) → s ≡ sizes p → r ≡ unless (bitmap-fault s call) a
+    → r ≡ unless (bitmap-fault (sizes p) call) a
+at-size p call a e h = h ∙ ap (λ (z : Size). unless (bitmap-fault z call) a) e
 
 -- the 1 by 1 rectangle at a pixel
 one-pixel : (s : Size) (x y : ℤ) (a b : ℕ) → inside s x y ≡ true → (in-rectangle x y 1 1 (pos a) (pos b) && (inside s (pos a) (pos b) && true)) ≡ (eqb a (natAbs x) && eqb b (natAbs y))

@@ -1,7 +1,5 @@
 -- What drawing on a pane leaves.
 use mathlib.Core.Path.{_≡_, refl, sym, ap, subst, _∙_}
-use mathlib.Core.Bool.{Bool, true, _||_}
-use Prim.Native.Nat.{ℕ}
 use lib.IntN.{ℤ}
 use Rattle.std.proofs.shelf.Tests.{or-left}
 use Rattle.raster.specs.Picture.{Picture, sizes}

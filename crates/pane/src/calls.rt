@@ -16,18 +16,18 @@ pub impl<S: Bitmap, T: Bitmap> Bitmap for Pane<S, T> as PaneBitmap {
     }
 
     fn read(&self, x: i16, y: i16) -> Result<u8, Fault> {
-        self.desk.pane_size(self.client).read_place(x, y)?;
+        self.size().read_place(x, y)?;
         Ok(self.desk.read(self.client, x, y).unwrap_or(0)) // never refused: the pixel is one of an open layer
     }
 
     fn write(&mut self, x: i16, y: i16, v: u8) -> Result<u32, Fault> {
-        self.desk.pane_size(self.client).write_place(x, y, v)?;
+        self.size().write_place(x, y, v)?;
         let _ = self.desk.fill(self.client, 3, v, x, y, 1, 1);
         Ok(0)
     }
 
     fn fill(&mut self, rule: u8, v: u8, x: i16, y: i16, w: u16, h: u16) -> Result<u32, Fault> {
-        let blit = Blit::fill(self.desk.pane_size(self.client), rule, v, x, y, w, h)?;
+        let blit = Blit::fill(self.size(), rule, v, x, y, w, h)?;
         let _ = self.desk.fill(self.client, rule, v, x, y, w, h);
         Ok(blit.count())
     }
@@ -42,7 +42,7 @@ pub impl<S: Bitmap, T: Bitmap> Bitmap for Pane<S, T> as PaneBitmap {
         w: u16,
         h: u16,
     ) -> Result<u32, Fault> {
-        let blit = Blit::scroll(self.desk.pane_size(self.client), rule, sx, sy, dx, dy, w, h)?;
+        let blit = Blit::scroll(self.size(), rule, sx, sy, dx, dy, w, h)?;
         let _ = self.desk.scroll(self.client, rule, sx, sy, dx, dy, w, h);
         Ok(blit.count())
     }
