@@ -1,4 +1,5 @@
-//! The calls of a pane: the client's drawing on its layer of the desk.
+//! The calls of a pane: the client's drawing on its layer of the desk. Each is refused as a bitmap of that size refuses it. What passes, the desk
+//! refuses only if the client has no open layer, and then there is no pixel to draw.
 ghost use Rattle.pane.specs.Panes.{picture-of, Pane-kept};
 use crate::pane::Pane;
 use raster::Bitmap;

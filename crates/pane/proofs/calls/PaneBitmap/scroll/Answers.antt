@@ -24,7 +24,7 @@ returns-in-Break-blit g c =
     let call = scroll-by (transfer (a .rule) (a .sx) (a .sy) (a .dx) (a .dy) (a .w) (a .h)) in
     let p = err-from-errBy (c .from-residual .result) (c .from-residual .ensures .1) in
     let r = refused (picture-of (g .S·Bitmap) (g .T·Bitmap) (a .self .now)) call _
-        (ap (λ (z : Size). bitmap-fault z call) (sym (c .size .ensures)) ∙ (simp toZ-ofZ at (c .in-Break-blit .ensures tt))) in
+    (ap (λ (z : Size). bitmap-fault z call) (sym (c .size .ensures)) ∙ (simp toZ-ofZ at (c .in-Break-blit .ensures tt))) in
     rw (p .1, p .2)
     (record { answer = r .answer; after = r .after; rest = pane-same (g .S·Bitmap) (g .T·Bitmap) (g .S·Bitmap·met .same) (g .T·Bitmap·met .same) (a .self .now); refused = refl })
 
