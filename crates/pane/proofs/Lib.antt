@@ -1,0 +1,3 @@
+pub mod Sounds
+pub mod Drawings
+pub mod Kept
