@@ -71,6 +71,7 @@ cleared screen sound =
   where
     off : (x y : ℕ) → on-screen (sizes screen) (record { x = pos 0; y = pos 0; w = screen .width; h = screen .height }) x y ≡ false → (screen .width ≤ x) ⊎ (screen .height ≤ y)
     off x y e = ⊎-elim (λ (a : x < screen .width). inr (grind (arith, ints, tells))) (λ (a : screen .width ≤ x). inl a) (cases-lt x (screen .width))
+
     by : (x y : ℕ) (t : Bool) → on-screen (sizes screen) (record { x = pos 0; y = pos 0; w = screen .width; h = screen .height }) x y ≡ t → cond t 0 (screen .at x y) ≡ 0
     by x y true e = refl
     by x y false e = sound .outside x y (off x y e)

@@ -53,13 +53,7 @@ impl<S: Bitmap, T: Bitmap> Desk<S, T> {
         ensures pixels { λ _. ⌜ Rearranges (now (self .entry) .book .plan) after (now (slots .entry)) area (S·Bitmap .picture (now (self .entry) .screen)) (T·Bitmap .picture (now (self .entry) .store)) (S·Bitmap .picture (now (self .exit) .screen)) (T·Bitmap .picture (now (self .exit) .store)) ⌝ }
         ensures rest { λ _. ⌜ Keeps S·Bitmap T·Bitmap (now (self .entry)) (now (self .exit)) ⌝ }
     {
-        stow(
-            &self.screen,
-            &mut self.store,
-            &self.book.plan,
-            slots,
-            area,
-        );
+        stow(&self.screen, &mut self.store, &self.book.plan, slots, area);
         repaint(&mut self.screen, &self.store, &after, slots, area);
         self.book = Book::settled(after, slots);
     }

@@ -5,6 +5,7 @@ use paper::DeskFault;
 use planes::Planes;
 use planes::PlanesBitmap;
 use raster::Bitmap;
+use raster::FaultDebug;
 use raster::RefusalDebug;
 use raster::RefusalPartialEq;
 use runrows::RunRows;
@@ -39,7 +40,11 @@ fn nth(n: u32) -> Call {
         6 => Call::Fill((n / 10 % 5) as u8, 3, v % 4, 0, 0, w, h),
         7 => Call::Lower(c),
         8 => Call::Read(c, x, y),
-        _ => if n % 30 == 29 { Call::Close(c) } else { Call::Top(x, y) },
+        _ => if n % 30 == 29 {
+            Call::Close(c)
+        } else {
+            Call::Top(x, y)
+        },
     }
 }
 

@@ -22,13 +22,13 @@ pub record Marking (test : ℕ → Bool) (i : ℕ) (marks : List Bool) : Type 0 
 
 pub mark-more : (test : ℕ → Bool) (i : ℕ) (marks : List Bool) (b : Bool) → i < 2400 → b ≡ test i → Marking test i marks → Marking test (i + 1) (set marks i b)
 mark-more test i marks b h e m = record {
-    long = length-set marks i b ∙ m .long;
-    each = λ k l.
-        ⊎-elim
-        (λ (s : k ≡ i). ap (λ j. getD (set marks i b) j false) s ∙ getD-set-same marks i b false (let n = m .long in omega arith) ∙ e ∙ ap test (sym s))
-        (λ (ne : k ≡ i → ⊥). getD-set-other marks i k b false ne ∙ m .each k (omega arith))
-        (cases-eq k i);
-  }
+  long = length-set marks i b ∙ m .long;
+  each = λ k l.
+      ⊎-elim
+      (λ (s : k ≡ i). ap (λ j. getD (set marks i b) j false) s ∙ getD-set-same marks i b false (let n = m .long in omega arith) ∙ e ∙ ap test (sym s))
+      (λ (ne : k ≡ i → ⊥). getD-set-other marks i k b false ne ∙ m .each k (omega arith))
+      (cases-eq k i);
+}
 
 -- ── Counting ──
 
@@ -88,9 +88,12 @@ counted-full f m zero h = omega arith
 counted-full f m (suc n) h =
     let q = h n (omega arith) in
     let e = q .2 in
-    omega (arith, counted-full f m n (λ s l. h s (omega arith)),
-    counted-less (λ k. ltb (f k) n) (λ k. ltb (f k) (suc n)) m (q .0) (q .1) (le-ltb (f (q .0)) n (omega arith)) (lt-ltb (f (q .0)) (suc n) (omega arith))
-    (λ k l t. lt-ltb (f k) (suc n) (omega (arith, ltb-true (f k) n t))))
+    omega (
+      arith,
+      counted-full f m n (λ s l. h s (omega arith)),
+      counted-less (λ k. ltb (f k) n) (λ k. ltb (f k) (suc n)) m (q .0) (q .1) (le-ltb (f (q .0)) n (omega arith)) (lt-ltb (f (q .0)) (suc n) (omega arith))
+          (λ k l t. lt-ltb (f k) (suc n) (omega (arith, ltb-true (f k) n t))),
+    )
 
 -- ── Slots retained ──
 
@@ -103,25 +106,25 @@ pub record Retaining (old : List ℕ) (test : ℕ → Bool) (i : ℕ) (table : L
 module _ (old : List ℕ) (test : ℕ → Bool) (i : ℕ) (table : List ℕ) (h : i < 2400) (a : Retaining old test i table) where
   pub retain-skip : test i ≡ true → Retaining old test (i + 1) table
   retain-skip t = record {
-      long = a .long;
-      done = λ k l.
-          ⊎-elim
-          (λ (e : k ≡ i). a .left k (omega arith) ∙ ap (λ b. cond b (getD old k 0) 65535) (sym (ap test e ∙ t)))
-          (λ (ne : k ≡ i → ⊥). a .done k (omega arith)) (cases-eq k i);
-      left = λ k l. a .left k (omega arith);
-    }
+    long = a .long;
+    done = λ k l.
+        ⊎-elim
+        (λ (e : k ≡ i). a .left k (omega arith) ∙ ap (λ b. cond b (getD old k 0) 65535) (sym (ap test e ∙ t)))
+        (λ (ne : k ≡ i → ⊥). a .done k (omega arith)) (cases-eq k i);
+    left = λ k l. a .left k (omega arith);
+  }
 
   pub retain-set : test i ≡ false → Retaining old test (i + 1) (set table i 65535)
   retain-set t = record {
-      long = length-set table i 65535 ∙ a .long;
-      done = λ k l.
-          ⊎-elim
-          (λ (e : k ≡ i).
-          ap (λ j. getD (set table i 65535) j 0) e ∙ getD-set-same table i 65535 0 (let n = a .long in omega arith)
-          ∙ ap (λ b. cond b (getD old k 0) 65535) (sym (ap test e ∙ t)))
-          (λ (ne : k ≡ i → ⊥). getD-set-other table i k 65535 0 ne ∙ a .done k (omega arith)) (cases-eq k i);
-      left = λ k l. getD-set-other table i k 65535 0 (λ e. omega arith) ∙ a .left k (omega arith);
-    }
+    long = length-set table i 65535 ∙ a .long;
+    done = λ k l.
+        ⊎-elim
+        (λ (e : k ≡ i).
+        ap (λ j. getD (set table i 65535) j 0) e ∙ getD-set-same table i 65535 0 (let n = a .long in omega arith)
+        ∙ ap (λ b. cond b (getD old k 0) 65535) (sym (ap test e ∙ t)))
+        (λ (ne : k ≡ i → ⊥). getD-set-other table i k 65535 0 ne ∙ a .done k (omega arith)) (cases-eq k i);
+    left = λ k l. getD-set-other table i k 65535 0 (λ e. omega arith) ∙ a .left k (omega arith);
+  }
 
 module _ (places : ℕ) (old table : List ℕ) (test : ℕ → Bool) (few : places ≤ 4096) (done : (k : ℕ) → k < 2400 → getD table k 0 ≡ cond (test k) (getD old k 0) 65535) where
   pub retained-has : (k : ℕ) → k < 2400 → ltb (getD table k 0) places ≡ (test k && ltb (getD old k 0) places)
@@ -156,11 +159,11 @@ pub record Taking (places : ℕ) (table : List ℕ) (i : ℕ) (taken : List Bool
 module _ (places : ℕ) (table : List ℕ) (i : ℕ) (taken : List Bool) (few : places ≤ 4096) (a : Taking places table i taken) where
   pub take-skip : places ≤ getD table i 0 → Taking places table (i + 1) taken
   take-skip h = record {
-      long = a .long;
-      used = λ s l t. let q = a .used s l t in (q .0, omega (arith, q .1), q .2);
-      free = λ s l t k hk e.
-          ⊎-elim (λ (same : k ≡ i). let f = ap (λ j. getD table j 0) same in omega arith) (λ (ne : k ≡ i → ⊥). a .free s l t k (omega arith) e) (cases-eq k i);
-    }
+    long = a .long;
+    used = λ s l t. let q = a .used s l t in (q .0, omega (arith, q .1), q .2);
+    free = λ s l t k hk e.
+        ⊎-elim (λ (same : k ≡ i). let f = ap (λ j. getD table j 0) same in omega arith) (λ (ne : k ≡ i → ⊥). a .free s l t k (omega arith) e) (cases-eq k i);
+  }
 
   pub take-set : getD table i 0 < places → Taking places table (i + 1) (set taken (getD table i 0) true)
   take-set h =
@@ -184,7 +187,7 @@ module _ (places : ℕ) (table : List ℕ) (i : ℕ) (taken : List Bool) (few : 
 
 pub take-none : (places : ℕ) (table : List ℕ) → places ≤ 4096 → Taking places table 0 (replicate 4096 false)
 take-none places table few = record {
-    long = length-replicate 4096 false;
-    used = λ s l t. absurd (both-ways _ (getD-replicate 4096 s false false (omega arith)) t);
-    free = λ s l t k hk e. omega arith;
-  }
+  long = length-replicate 4096 false;
+  used = λ s l t. absurd (both-ways _ (getD-replicate 4096 s false false (omega arith)) t);
+  free = λ s l t k hk e. omega arith;
+}

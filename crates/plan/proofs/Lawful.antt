@@ -50,10 +50,10 @@ hidden-of p c i j = hidden-in (p .screen) (layers-in p) c i j
 
 hidden-bounded : (p : Plan) → Bounded p (hidden-of p)
 hidden-bounded p = record {
-    closed = λ c i j h. hidden-closed (p .screen) (p .frames) c i j (listed p) h;
-    outside = λ c i j h o.
-        hidden-at (p .screen) (p .frames) c i j (listed p) h ∙ sym (no-area (p .screen) (above c (layers-in p)) (frame-in p c) (frame-in p c) (16 * i) (16 * j) refl o);
-  }
+  closed = λ c i j h. hidden-closed (p .screen) (p .frames) c i j (listed p) h;
+  outside = λ c i j h o.
+      hidden-at (p .screen) (p .frames) c i j (listed p) h ∙ sym (no-area (p .screen) (above c (layers-in p)) (frame-in p c) (frame-in p c) (16 * i) (16 * j) refl o);
+}
 
 pub hidden-counted : (p : Plan) (slots : ℕ) → passing (hidden-patch p) ≡ hidden-count (desk-in p slots)
 unfolding hidden-count
@@ -72,9 +72,11 @@ moved-bounded p moved = record { closed = λ c i j h. closed c i j h (eqb c move
         → (has moved (listed p) && (t && (ltb (16 * i) (frame-in p moved .w) && ltb (16 * j) (frame-in p moved .h)))) ≡ false
     closed c i j h true e = and-left _ _ (ap (λ k. has k (listed p)) (sym (eqb-true c moved e)) ∙ h)
     closed c i j h false e = and-right (has moved (listed p)) false refl
+
     small : (c i j : ℕ) → Outside (frame-in p c) i j → (ltb (16 * i) (frame-in p c .w) && ltb (16 * j) (frame-in p c .h)) ≡ false
     small c i j o =
         ⊎-elim (λ (l : frame-in p c .w ≤ 16 * i). and-left _ _ (le-ltb (16 * i) (frame-in p c .w) l)) (λ (l : frame-in p c .h ≤ 16 * j). and-right _ _ (le-ltb (16 * j) (frame-in p c .h) l)) o
+
     outside : (c i j : ℕ) → Outside (frame-in p c) i j → (t : Bool) → eqb c moved ≡ t
         → (has moved (listed p) && (t && (ltb (16 * i) (frame-in p moved .w) && ltb (16 * j) (frame-in p moved .h)))) ≡ false
     outside c i j o true e =
@@ -95,13 +97,14 @@ moved-inside p moved c i j h hi hj = go (eqb c moved) refl ∙ flip c moved
 -- what was hidden before lies in the layers after
 before-bounded : (before after : Plan) → All-still-open before after → Bounded after (hidden-of before)
 before-bounded before after still = record {
-    closed = λ c i j h. closed c i j h (has c (listed before)) refl;
-    outside = λ c i j h o. outside c i j o (has c (listed before)) refl;
-  }
+  closed = λ c i j h. closed c i j h (has c (listed before)) refl;
+  outside = λ c i j h o. outside c i j o (has c (listed before)) refl;
+}
   where
     closed : (c i j : ℕ) → has c (listed after) ≡ false → (t : Bool) → has c (listed before) ≡ t → hidden-of before c i j ≡ false
     closed c i j h true e = absurd (both-ways _ h (still c e .listed-after))
     closed c i j h false e = hidden-bounded before .closed c i j e
+
     outside : (c i j : ℕ) → Outside (frame-in after c) i j → (t : Bool) → has c (listed before) ≡ t → hidden-of before c i j ≡ false
     outside c i j o true e =
         hidden-bounded before .outside c i j e
@@ -126,8 +129,8 @@ module _ (before after : Plan) (moved slots : ℕ) (also : ℕ → Bool) (still 
 
 pub plan-laws : Plan-laws
 plan-laws = record {
-    hidden = hidden-counted;
-    moved = λ before after client slots still. needs-counted before after client slots (λ c. eqb client c) still (λ c h. refl);
-    unmoved = λ before after slots still.
-        needs-counted before after 255 slots (λ _. false) still (λ c h. sym (ne-eqb 255 c (λ e. let l = open-low after c h in omega arith)));
-  }
+  hidden = hidden-counted;
+  moved = λ before after client slots still. needs-counted before after client slots (λ c. eqb client c) still (λ c h. refl);
+  unmoved = λ before after slots still.
+      needs-counted before after 255 slots (λ _. false) still (λ c h. sym (ne-eqb 255 c (λ e. let l = open-low after c h in omega arith)));
+}

@@ -205,6 +205,7 @@ others-fewer c (d ∷ cs) h = go (others-fewer c cs) (others-most c cs) (eqb d c
         by : (b : Bool) → length (others c cs) ≤ length cs → length (cond b (d ∷ others c cs) (others c cs)) ≤ suc (length cs)
         by true h = omega arith
         by false h = omega arith
+
     go : (has c cs ≡ true → suc (length (others c cs)) ≤ length cs) → length (others c cs) ≤ length cs → (b : Bool) → eqb d c ≡ b → (b || has c cs) ≡ true
         → suc (length (others c (d ∷ cs))) ≤ suc (length cs)
     go ih m true e h = rw (flip c d ∙ e) (omega arith)
@@ -216,8 +217,8 @@ room-for zero [] h low = omega arith
 room-for zero (c ∷ cs) h low = absurd (let l = low c (or-left (eqb c c) (has c cs) (same-test c)) in omega arith)
 room-for (suc n) cs h low =
     let few = room-for n (others n cs) (distinct-kept _ cs h)
-        (λ d k. let q = and-parts (has d cs) (not (eqb n d)) (sym (others-have n d cs) ∙ k) in
-        let l = low d (q .0) in let ne = eqb-false n d (not-true _ (q .1)) in omega arith) in
+    (λ d k. let q = and-parts (has d cs) (not (eqb n d)) (sym (others-have n d cs) ∙ k) in
+    let l = low d (q .0) in let ne = eqb-false n d (not-true _ (q .1)) in omega arith) in
     omega (arith, length-others n cs h)
 
 -- ── A layer moved or opened ──
@@ -246,11 +247,12 @@ outlines-moved c x y (d ∷ cs) fs h l = let q = and-parts (not (has d cs)) (dis
   where
     gs : List Frame
     gs = set fs c (cornered x y (getD fs c no-frame))
+
     go : not (has d cs) ≡ true → outlines cs gs ≡ alter c (at-corner x y) (outlines cs fs) → (b : Bool) → eqb d c ≡ b
         → outlines (d ∷ cs) gs ≡ cond b (at-corner x y (outline d (getD fs d no-frame)) ∷ outlines cs fs) (outline d (getD fs d no-frame) ∷ alter c (at-corner x y) (outlines cs fs))
     go k ih true e =
         let same = eqb-true d c e in
         let at : getD gs d no-frame ≡ cornered x y (getD fs d no-frame) =
-            ap (λ i. getD gs i no-frame) same ∙ getD-set-same fs c _ no-frame l ∙ ap (λ i. cornered x y (getD fs i no-frame)) (sym same) in
+        ap (λ i. getD gs i no-frame) same ∙ getD-set-same fs c _ no-frame l ∙ ap (λ i. cornered x y (getD fs i no-frame)) (sym same) in
         ap₂ (λ f ls. outline d f ∷ ls) at (outlines-set c cs fs _ (ap (λ i. has i cs) (sym same) ∙ not-true _ k))
     go k ih false e = ap₂ (λ f ls. outline d f ∷ ls) (getD-set-other fs c d _ no-frame (eqb-false d c e)) ih

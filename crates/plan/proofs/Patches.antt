@@ -70,10 +70,13 @@ same-bool false false f g = refl
 module _ (f : Frame) (u v : ℕ) where
   abbrev x : ℕ → ℤ
   x k = f .x +ℤ pos k
+
   abbrev y : ℕ → ℤ
   y k = f .y +ℤ pos k
+
   abbrev right : ℤ
   right = f .x +ℤ pos (min (u + 16) (f .w))
+
   abbrev bottom : ℤ
   bottom = f .y +ℤ pos (min (v + 16) (f .h))
 

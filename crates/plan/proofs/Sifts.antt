@@ -39,11 +39,11 @@ pub record Sifting (c : ℕ) (cs front : List ℕ) (i n : ℕ) (out : List ℕ) 
 
 pub sift-none : (c : ℕ) (cs : List ℕ) (start : ℕ) → c < 8 → start ≤ 8 → Sifting c cs (replicate start c) 0 start (replicate 8 c)
 sift-none c cs start l h = record {
-    long = length-replicate 8 c;
-    low = low-all c l;
-    few = h;
-    so-far = ap (λ xs. xs ++ others c cs) (take-replicate start 8 c h);
-  }
+  long = length-replicate 8 c;
+  low = low-all c l;
+  few = h;
+  so-far = ap (λ xs. xs ++ others c cs) (take-replicate start 8 c h);
+}
 
 module _ (c : ℕ) (xs : List ℕ) (count : ℕ) (front : List ℕ) (i n : ℕ) (out : List ℕ) (long : count ≤ length xs) (a : Sifting c (take count xs) front i n out) where
   abbrev rest : List ℕ
@@ -54,21 +54,21 @@ module _ (c : ℕ) (xs : List ℕ) (count : ℕ) (front : List ℕ) (i n : ℕ) 
 
   pub sift-skip : i < count → eqb (getD xs i 0) c ≡ true → Sifting c (take count xs) front (i + 1) n out
   sift-skip h e = record {
-      long = a .long;
-      low = a .low;
-      few = a .few;
-      so-far = ap (λ ys. take n out ++ ys) (sym (at-turn h true e)) ∙ a .so-far;
-    }
+    long = a .long;
+    low = a .low;
+    few = a .few;
+    so-far = ap (λ ys. take n out ++ ys) (sym (at-turn h true e)) ∙ a .so-far;
+  }
 
   pub sift-room : i < count → eqb (getD xs i 0) c ≡ false → length front + length (others c (take count xs)) ≤ 8 → n < 8
   sift-room h e room =
       let s : length (take n out) + length (others c (drop i (take count xs))) ≡ length front + length (others c (take count xs)) =
-          sym (length-append (take n out) _) ∙ ap length (a .so-far) ∙ length-append front _ in
+      sym (length-append (take n out) _) ∙ ap length (a .so-far) ∙ length-append front _ in
       let o = ap length (at-turn h false e) in
       omega (arith, length-take-le n out (let l = a .long in let f = a .few in omega arith))
 
   pub sift-put : i < count → eqb (getD xs i 0) c ≡ false → n < 8 → getD xs i 0 < 8 → Sifting c (take count xs) front (i + 1) (n + 1) (set out n (getD xs i 0))
-  sift-put h e l low = 
+  sift-put h e l low =
       let in-out : n < length out = let eight = a .long in omega arith in
       record {
         long = length-set out n (getD xs i 0) ∙ a .long;
@@ -114,10 +114,10 @@ sifted-count n out cs h e = sym (length-take-le n out h) ∙ ap length e
 module _ (p : Plan) (c : ℕ) (h : has c (listed p) ≡ false) where
   pub closed-same : Arranged p p (without c (layers-in p)) (λ d. has d (listed p) && not (eqb c d))
   closed-same = record {
-      screen = refl;
-      layers = closed-none c (listed p) (p .frames) h;
-      clients = λ d. ap (has d) (sym (others-all c (listed p) h)) ∙ others-have c d (listed p);
-    }
+    screen = refl;
+    layers = closed-none c (listed p) (p .frames) h;
+    clients = λ d. ap (has d) (sym (others-all c (listed p) h)) ∙ others-have c d (listed p);
+  }
 
   pub raised-same : Arranged p p (without c (layers-in p) ++ only c (layers-in p)) (λ d. has d (listed p))
   raised-same = record { screen = refl; layers = raised-none c (listed p) (p .frames) (p .once) h; clients = λ d. refl }

@@ -22,8 +22,9 @@ pub loop-k-again : need.loop-k-again
 loop-k-again c =
     let test : ℕ → Bool = λ k. getD (c .args .marks .now) k false in
     elim (c .if-marks-k .came) [
-      then-marks-k w ↦ w .n-is ∙ counted-yes test (c .loop-k .k) (c .loop-k .n) (w .if-marks-k .taken) (c .loop-k .inv)
-    | else-marks-k w ↦ w .n-is ∙ counted-no test (c .loop-k .k) (c .loop-k .n) (w .if-marks-k .left) (c .loop-k .inv) ]
+      | then-marks-k w ↦ w .n-is ∙ counted-yes test (c .loop-k .k) (c .loop-k .n) (w .if-marks-k .taken) (c .loop-k .inv)
+      | else-marks-k w ↦ w .n-is ∙ counted-no test (c .loop-k .k) (c .loop-k .n) (w .if-marks-k .left) (c .loop-k .inv)
+    ]
 
 pub returns : need.returns
 returns c =

@@ -31,6 +31,8 @@ returns g c =
     let listed = c .in-Some .rule .listed in
     let number = c .in-Some .ensures tt in
     let size = c .size .ensures in
-    let left = c .if-depth-size .left in
-    (stamp-last s t (d .book) (a .c) (c .in-Continue-check-open .ensures tt) (a .rule) (a .depth) (le-ltb 15 (a .rule) (search arith))
-    ∙ ap (λ z. refuse-if z (because ValueTooLarge (a .c))) (le-ltb (s .depth) (a .depth) (search arith)), c .in-Some .ensures tt)
+    let left = c .if-depth-size .left in (
+      stamp-last s t (d .book) (a .c) (c .in-Continue-check-open .ensures tt) (a .rule) (a .depth) (le-ltb 15 (a .rule) (search arith))
+          ∙ ap (λ z. refuse-if z (because ValueTooLarge (a .c))) (le-ltb (s .depth) (a .depth) (search arith)),
+      c .in-Some .ensures tt,
+    )

@@ -40,7 +40,7 @@ returns g c =
     let fdx = c .fits .dx in
     let fdy = c .fits .dy in
     let clipped = stamp-clipped s t (d .book) (a .c) move source ok (c .size-from .result) (c .pane-size-size .result) (c .in-Continue-rule .rule) (c .clip-columns .result) (c .clip-rows .result)
-        (c .size-from .ensures) (c .pane-size-size .ensures) (c .in-Continue-rule .ensures tt .1) (simp toZ-ofZ at (c .clip-columns .ensures)) (simp toZ-ofZ at (c .clip-rows .ensures)) in
+    (c .size-from .ensures) (c .pane-size-size .ensures) (c .in-Continue-rule .ensures tt .1) (simp toZ-ofZ at (c .clip-columns .ensures)) (simp toZ-ofZ at (c .clip-rows .ensures)) in
     record {
       does = stamp-does s t (d .book) (a .c) move source ok (g .S·Bitmap .picture (c .stamp .last .screen)) (g .T·Bitmap .picture (c .stamp .last .store))
           (c .stamp .ensures .drawn move clipped (fitting s t (d .book) (stamp-fits s t (d .book) (a .c) move source ok))) (c .stamp .result) (c .stamp .ensures .count move clipped);

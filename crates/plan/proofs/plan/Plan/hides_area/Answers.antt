@@ -33,9 +33,9 @@ returns-then-not-holds c =
     let er : c .min .result ≡ min (c .args .u + 16) (f .w) = c .min .ensures in
     let eb : c .min-2 .result ≡ min (c .args .v + 16) (f .h) = c .min-2 .ensures in
     let is = area-is (p .screen) hi (frame-in p (c .args .c)) f (c .args .u) (c .args .v) (c .frame-frame .ensures) (c .if-u-frame .left) (c .if-v-frame .left) left top right bottom
-        (wide-sum (f .x) (c .args .u) fx (omega (arith, c .pre .0))) (wide-sum (f .y) (c .args .v) fy (omega (arith, c .pre .1)))
-        (wide-sum (f .x) (c .min .result) fx (omega (arith, c .pre .0)) ∙ ap (λ k. f .x +ℤ pos k) er)
-        (wide-sum (f .y) (c .min-2 .result) fy (omega (arith, c .pre .1)) ∙ ap (λ k. f .y +ℤ pos k) eb) in
+    (wide-sum (f .x) (c .args .u) fx (omega (arith, c .pre .0))) (wide-sum (f .y) (c .args .v) fy (omega (arith, c .pre .1)))
+    (wide-sum (f .x) (c .min .result) fx (omega (arith, c .pre .0)) ∙ ap (λ k. f .x +ℤ pos k) er)
+    (wide-sum (f .y) (c .min-2 .result) fy (omega (arith, c .pre .1)) ∙ ap (λ k. f .y +ℤ pos k) eb) in
     ap not (c .holds .ensures) ∙ either-first (on-screen (p .screen) left top right bottom) (met hi left top right bottom) (sym (c .holds .ensures) ∙ c .if-not-holds .taken) ∙ is
 
 pub returns-else-not-holds : need.returns-else-not-holds
@@ -52,7 +52,7 @@ returns-else-not-holds c =
     let er : c .min .result ≡ min (c .args .u + 16) (f .w) = c .min .ensures in
     let eb : c .min-2 .result ≡ min (c .args .v + 16) (f .h) = c .min-2 .ensures in
     let is = area-is (p .screen) hi (frame-in p (c .args .c)) f (c .args .u) (c .args .v) (c .frame-frame .ensures) (c .if-u-frame .left) (c .if-v-frame .left) left top right bottom
-        (wide-sum (f .x) (c .args .u) fx (omega (arith, c .pre .0))) (wide-sum (f .y) (c .args .v) fy (omega (arith, c .pre .1)))
-        (wide-sum (f .x) (c .min .result) fx (omega (arith, c .pre .0)) ∙ ap (λ k. f .x +ℤ pos k) er)
-        (wide-sum (f .y) (c .min-2 .result) fy (omega (arith, c .pre .1)) ∙ ap (λ k. f .y +ℤ pos k) eb) in
+    (wide-sum (f .x) (c .args .u) fx (omega (arith, c .pre .0))) (wide-sum (f .y) (c .args .v) fy (omega (arith, c .pre .1)))
+    (wide-sum (f .x) (c .min .result) fx (omega (arith, c .pre .0)) ∙ ap (λ k. f .x +ℤ pos k) er)
+    (wide-sum (f .y) (c .min-2 .result) fy (omega (arith, c .pre .1)) ∙ ap (λ k. f .y +ℤ pos k) eb) in
     c .meets-above .ensures ∙ either-second (on-screen (p .screen) left top right bottom) (met hi left top right bottom) (sym (c .holds .ensures) ∙ c .if-not-holds .left) ∙ is

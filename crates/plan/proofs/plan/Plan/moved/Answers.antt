@@ -30,9 +30,10 @@ index-frames-c-2 c = open-low (c .args .self .now) (c .args .c) (sym (c .if-not-
 pub ghost-result : need.ghost-result
 ghost-result c =
     let p = c .args .self .now in
-    let h = open-low p (c .args .c) (sym (c .if-not-is-open .ensures tt)) in
-    (length-set (p .frames) (c .args .c) _ ∙ p .long,
-    (p .few, (p .low, (p .once, (set-narrow p (c .args .c) _ h (p .narrow (c .args .c)), (set-short p (c .args .c) _ h (p .short (c .args .c)), tt))))))
+    let h = open-low p (c .args .c) (sym (c .if-not-is-open .ensures tt)) in (
+      length-set (p .frames) (c .args .c) _ ∙ p .long,
+      (p .few, (p .low, (p .once, (set-narrow p (c .args .c) _ h (p .narrow (c .args .c)), (set-short p (c .args .c) _ h (p .short (c .args .c)), tt))))),
+    )
 
 pub returns : need.returns
 returns c =

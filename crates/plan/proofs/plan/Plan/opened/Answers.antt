@@ -36,12 +36,19 @@ ghost-result c =
     let k : length (p .order) ≡ 8 = search needs in
     let f = c .args .frame in
     let o = opens p (c .args .c) f (sym (c .if-not-can-open .ensures tt)) in
-    let r = room p (c .args .c) f o k in
-    (length-set (p .frames) (c .args .c) f ∙ p .long,
-    (omega arith,
-    (low p (c .args .c) f o k,
-    (ap distinct (order p (c .args .c) f o k) ∙ distinct-last (c .args .c) (listed p) (p .once) (o .none),
-    (set-narrow p (c .args .c) f (o .client) (o .narrow), (set-short p (c .args .c) f (o .client) (o .short), tt))))))
+    let r = room p (c .args .c) f o k in (
+      length-set (p .frames) (c .args .c) f ∙ p .long,
+      (
+        omega arith,
+        (
+          low p (c .args .c) f o k,
+          (
+            ap distinct (order p (c .args .c) f o k) ∙ distinct-last (c .args .c) (listed p) (p .once) (o .none),
+            (set-narrow p (c .args .c) f (o .client) (o .narrow), (set-short p (c .args .c) f (o .client) (o .short), tt)),
+          ),
+        ),
+      ),
+    )
 
 pub returns : need.returns
 returns c =
@@ -53,10 +60,10 @@ returns c =
     let e = order p (c .args .c) f o k in
     record {
       arranged = λ _. record {
-          screen = refl;
-          layers = ap (λ cs. outlines cs (set (p .frames) (c .args .c) f)) e ∙ opened-layers p (c .args .c) f (o .client) (o .none);
-          clients = λ d. ap (has d) e ∙ has-last (c .args .c) d (listed p);
-        };
+        screen = refl;
+        layers = ap (λ cs. outlines cs (set (p .frames) (c .args .c) f)) e ∙ opened-layers p (c .args .c) f (o .client) (o .none);
+        clients = λ d. ap (has d) e ∙ has-last (c .args .c) d (listed p);
+      };
       frames = λ d ne. set-others p (c .args .c) f d ne;
       own = λ _. set-own p (c .args .c) f (o .client);
       same = λ n. absurd (both-ways _ n h);

@@ -35,10 +35,14 @@ reordered-requires c κs =
     let e = c .sifted-count .ensures in
     let h = sym (c .if-not-is-open .ensures tt) in
     let room = raise-room p (c .args .c) _ _ (e .few) (e .long) (e .order) h in
-    let long = e .long in
-    (omega arith, (low-set _ (c .args .c) _ (omega arith) (open-low p (c .args .c) h) (e .low),
-    ap distinct (raise-order p (c .args .c) _ _ (e .few) (e .long) (e .order) h)
-    ∙ distinct-last (c .args .c) _ (others-distinct (c .args .c) (listed p) (p .once)) (others-lack (c .args .c) (listed p))))
+    let long = e .long in (
+      omega arith,
+      (
+        low-set _ (c .args .c) _ (omega arith) (open-low p (c .args .c) h) (e .low),
+        ap distinct (raise-order p (c .args .c) _ _ (e .few) (e .long) (e .order) h)
+            ∙ distinct-last (c .args .c) _ (others-distinct (c .args .c) (listed p) (p .once)) (others-lack (c .args .c) (listed p)),
+      ),
+    )
 
 pub returns : need.returns
 returns c =

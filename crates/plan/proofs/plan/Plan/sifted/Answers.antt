@@ -31,14 +31,15 @@ loop-i-again c =
     let front = replicate (c .args .start) (c .args .c) in
     let h : c .loop-i .i < p .count = omega arith in
     elim (c .if-d-c .came) [
-      then-d-c w ↦ (let ne = ne-eqb (getD (p .order) (c .loop-i .i) 0) (c .args .c) (w .if-d-c .taken) in
-        moved (c .args .c) (listed p) front (c .loop-i .i + 1) _ _ _ _ (w .n-is) (w .out-is)
-        (sift-put (c .args .c) (p .order) (p .count) front (c .loop-i .i) (c .loop-i .n) (c .loop-i .out) k (c .loop-i .inv) h ne
-        (sift-room (c .args .c) (p .order) (p .count) front (c .loop-i .i) (c .loop-i .n) (c .loop-i .out) k (c .loop-i .inv) h ne
-        (omega (arith, c .pre .1, length-replicate (c .args .start) (c .args .c))))
-        (p .low (c .loop-i .i))))
-    | else-d-c w ↦ moved (c .args .c) (listed p) front (c .loop-i .i + 1) _ _ _ _ (w .n-is) (w .out-is)
-        (sift-skip (c .args .c) (p .order) (p .count) front (c .loop-i .i) (c .loop-i .n) (c .loop-i .out) k (c .loop-i .inv) h (eq-eqb _ _ (w .if-d-c .left))) ]
+      | then-d-c w ↦ (let ne = ne-eqb (getD (p .order) (c .loop-i .i) 0) (c .args .c) (w .if-d-c .taken) in
+          moved (c .args .c) (listed p) front (c .loop-i .i + 1) _ _ _ _ (w .n-is) (w .out-is)
+          (sift-put (c .args .c) (p .order) (p .count) front (c .loop-i .i) (c .loop-i .n) (c .loop-i .out) k (c .loop-i .inv) h ne
+          (sift-room (c .args .c) (p .order) (p .count) front (c .loop-i .i) (c .loop-i .n) (c .loop-i .out) k (c .loop-i .inv) h ne
+          (omega (arith, c .pre .1, length-replicate (c .args .start) (c .args .c))))
+          (p .low (c .loop-i .i))))
+      | else-d-c w ↦ moved (c .args .c) (listed p) front (c .loop-i .i + 1) _ _ _ _ (w .n-is) (w .out-is)
+          (sift-skip (c .args .c) (p .order) (p .count) front (c .loop-i .i) (c .loop-i .n) (c .loop-i .out) k (c .loop-i .inv) h (eq-eqb _ _ (w .if-d-c .left)))
+    ]
 
 pub returns : need.returns
 returns c =

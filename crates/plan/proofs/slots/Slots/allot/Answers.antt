@@ -17,6 +17,7 @@ returns-then-count-self c =
 pub returns : need.returns
 returns c =
     let test = in-need (c .args .before .now) (c .args .after .now) (c .args .moved) in
-    let e : c .count .result ≡ passing test = c .count .ensures ∙ marked-count (c .args .self .now) (c .needed-marks .result) test (c .needed-marks .ensures) in
-    (omega (arith, c .if-count-self .left),
-    allotted (c .args .self .now) (c .needed-marks .result) test (c .needed-marks .ensures) (c .retained .result) (c .supplied .result) (c .retained .ensures) (c .supplied .ensures))
+    let e : c .count .result ≡ passing test = c .count .ensures ∙ marked-count (c .args .self .now) (c .needed-marks .result) test (c .needed-marks .ensures) in (
+      omega (arith, c .if-count-self .left),
+      allotted (c .args .self .now) (c .needed-marks .result) test (c .needed-marks .ensures) (c .retained .result) (c .supplied .result) (c .retained .ensures) (c .supplied .ensures),
+    )

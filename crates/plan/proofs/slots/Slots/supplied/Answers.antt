@@ -16,9 +16,11 @@ moved places old test i n m table new e f h = subst (λ k. Supplying places old 
 pub free-from-slot-requires : need.free-from-slot-requires
 free-from-slot-requires c κs =
     let t = c .args .self .now in
-    let test : ℕ → Bool = λ k. getD (c .args .marks .now) k false in
-    (t .room, supply-room t test (c .loop-k .k) (c .loop-k .next) (c .loop-k .table) (c .loop-k-test .taken) (c .loop-k .inv) (c .taken-taken .result) (c .taken-taken .ensures)
-    (c .pre .0) (c .if-marks-k .taken) (c .if-table-k .taken))
+    let test : ℕ → Bool = λ k. getD (c .args .marks .now) k false in (
+      t .room,
+      supply-room t test (c .loop-k .k) (c .loop-k .next) (c .loop-k .table) (c .loop-k-test .taken) (c .loop-k .inv) (c .taken-taken .result) (c .taken-taken .ensures)
+          (c .pre .0) (c .if-marks-k .taken) (c .if-table-k .taken),
+    )
 
 pub loop-k-again : need.loop-k-again
 loop-k-again c =
@@ -26,12 +28,14 @@ loop-k-again c =
     let test : ℕ → Bool = λ k. getD (c .args .marks .now) k false in
     let h : c .loop-k .k < 2400 = c .loop-k-test .taken in
     elim (c .if-marks-k .came) [
-      then-marks-k·then-table-k w ↦ (let f = w .free-from-slot .ensures in
-        moved (t .places) (t .table) test (c .loop-k .k + 1) _ _ _ _ (w .next-is) (w .table-is)
-        (supply-set t test (c .loop-k .k) (c .loop-k .next) (c .loop-k .table) h (c .loop-k .inv) (c .taken-taken .result) (c .taken-taken .ensures)
-        (w .free-from-slot .result) (w .if-marks-k .taken) (w .if-table-k .taken) (f .from) (f .there) (f .free) (f .passed)))
-    | else-marks-k w ↦ moved (t .places) (t .table) test (c .loop-k .k + 1) _ _ _ _ (w .next-is) (w .table-is)
-        (supply-skip t test (c .loop-k .k) (c .loop-k .next) (c .loop-k .table) h (c .loop-k .inv)
-        (elim (w .else-marks-k .came) [
-          else-marks-k·by·then-marks-k·else-table-k v ↦ (λ e. v .if-table-k .left)
-        | else-marks-k·by·else-marks-k v ↦ (λ e. absurd (both-ways _ (v .if-marks-k .left) e)) ])) ]
+      | then-marks-k·then-table-k w ↦ (let f = w .free-from-slot .ensures in
+          moved (t .places) (t .table) test (c .loop-k .k + 1) _ _ _ _ (w .next-is) (w .table-is)
+          (supply-set t test (c .loop-k .k) (c .loop-k .next) (c .loop-k .table) h (c .loop-k .inv) (c .taken-taken .result) (c .taken-taken .ensures)
+          (w .free-from-slot .result) (w .if-marks-k .taken) (w .if-table-k .taken) (f .from) (f .there) (f .free) (f .passed)))
+      | else-marks-k w ↦ moved (t .places) (t .table) test (c .loop-k .k + 1) _ _ _ _ (w .next-is) (w .table-is)
+          (supply-skip t test (c .loop-k .k) (c .loop-k .next) (c .loop-k .table) h (c .loop-k .inv)
+          (elim (w .else-marks-k .came) [
+            | else-marks-k·by·then-marks-k·else-table-k v ↦ (λ e. v .if-table-k .left)
+            | else-marks-k·by·else-marks-k v ↦ (λ e. absurd (both-ways _ (v .if-marks-k .left) e))
+          ]))
+    ]

@@ -23,5 +23,6 @@ pub loop-k-again : need.loop-k-again
 loop-k-again c =
     let t = c .args .self .now in
     elim (c .if-self-k .came) [
-      then-self-k w ↦ w .n-is ∙ counted-yes (has-slot t) (c .loop-k .k) (c .loop-k .n) (lt-ltb _ _ (w .if-self-k .taken)) (c .loop-k .inv)
-    | else-self-k w ↦ w .n-is ∙ counted-no (has-slot t) (c .loop-k .k) (c .loop-k .n) (le-ltb _ _ (w .if-self-k .left)) (c .loop-k .inv) ]
+      | then-self-k w ↦ w .n-is ∙ counted-yes (has-slot t) (c .loop-k .k) (c .loop-k .n) (lt-ltb _ _ (w .if-self-k .taken)) (c .loop-k .inv)
+      | else-self-k w ↦ w .n-is ∙ counted-no (has-slot t) (c .loop-k .k) (c .loop-k .n) (le-ltb _ _ (w .if-self-k .left)) (c .loop-k .inv)
+    ]
