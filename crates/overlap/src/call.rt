@@ -7,7 +7,7 @@ use std::alloc::Global;
 
 /// A call with its arguments, in the order in which they are printed.
 #[derive(Clone, Copy)]
-pub enum Call {
+pub(crate) enum Call {
     Open(u8, i16, i16, u16, u16),
     Close(u8),
     Raise(u8),
@@ -22,7 +22,7 @@ pub enum Call {
 
 impl Call {
     /// The call as it is printed.
-    pub fn text(self, heap: Global) -> Result<String, AllocError> {
+    pub(crate) fn text(self, heap: Global) -> Result<String, AllocError> {
         match self {
             Call::Open(c, x, y, w, h) => format!(heap, "open {c} {x} {y} {w} {h}"),
             Call::Close(c) => format!(heap, "close {c}"),
@@ -42,7 +42,7 @@ impl Call {
     }
 
     /// Performs the call: its answer as a number. That of top is the client + 1, or 0; that of slots, the slots in use.
-    pub fn perform<S: Bitmap, T: Bitmap>(self, desk: &mut Desk<S, T>) -> Result<u32, DeskFault> {
+    pub(crate) fn perform<S: Bitmap, T: Bitmap>(self, desk: &mut Desk<S, T>) -> Result<u32, DeskFault> {
         match self {
             Call::Open(c, x, y, w, h) => desk.open(c, x, y, w, h)?,
             Call::Close(c) => desk.close(c)?,
