@@ -42,7 +42,10 @@ impl Call {
     }
 
     /// Performs the call: its answer as a number. That of top is the client + 1, or 0; that of slots, the slots in use.
-    pub(crate) fn perform<S: Bitmap, T: Bitmap>(self, desk: &mut Desk<S, T>) -> Result<u32, DeskFault> {
+    pub(crate) fn perform<S: Bitmap, T: Bitmap>(
+        self,
+        desk: &mut Desk<S, T>,
+    ) -> Result<u32, DeskFault> {
         match self {
             Call::Open(c, x, y, w, h) => desk.open(c, x, y, w, h)?,
             Call::Close(c) => desk.close(c)?,

@@ -80,6 +80,3 @@ fn main(rt: LibcRuntime) -> io::Result<()> {
     }
     Ok(())
 }
-
-#[cfg(test)]
-mod tests;
