@@ -80,3 +80,6 @@ fn main(rt: LibcRuntime) -> io::Result<()> {
     }
     Ok(())
 }
+
+#[cfg(test)]
+mod tests;
