@@ -6,8 +6,8 @@ usage: python3 tools/respell.py          at the top of the repository, once, rig
 The names that are turned are those that the .antt files of specs/ and proofs/ declare with a dash inside: definitions, lemmas, fields,
 constructors, and names bound by a let, a module or a lambda. A type or a fact, whose name has a capital, goes to camel case
 (Same-frames: SameFrames), every other name to snake case (has-slot: has_slot). A name that ends in an operator keeps its dash before
-it (calls-++), as the library's do. Names that Rattle makes, which follow goal., c., w. or l., and names of Rust are left alone, and so
-is what stands in comments outside backquotes. It prints names that fall together with another, and turns nothing then.
+it (calls-++), as the library's do. Names that Rattle makes, which follow goal., c., w. or l., and names of Rust are left alone, so are
+names that a file imports from the library, and so is what stands in comments outside backquotes. It prints names that fall together with another, and turns nothing then.
 """
 
 import os
@@ -81,6 +81,15 @@ def declared(text):
     return {n for n in found if "-" in n.replace("-++", "") and n not in KEYWORDS and turned(n) != n}
 
 
+def library(text, root):
+    """The names that a file imports from the library."""
+    mine = "|".join(sorted(os.listdir(os.path.join(root, "crates"))))
+    found = set()
+    for m in re.finditer(r"^(?:ghost )?use (?!Rattle\.(?:" + mine + r")\.)[^{\n]*\{([^}]*)\}", text, re.M):
+        found |= {n.split(" as ")[0].strip() for n in m.group(1).split(",")}
+    return found
+
+
 def turn(code, own, names):
     def one(m):
         dot, name = m.groups()
@@ -123,10 +132,11 @@ def main():
     for p, t in texts.items():
         mark = "--" if p.endswith(".antt") else "//"
         out = []
+        here = own - library(t, root)
         for l in t.split("\n"):
             code, said = split(l, mark)
-            said = re.sub(r"`[^`]*`", lambda m: turn(m.group(0), own, names), said)
-            out.append(turn(code, own, names) + said)
+            said = re.sub(r"`[^`]*`", lambda m: turn(m.group(0), here, names), said)
+            out.append(turn(code, here, names) + said)
         new = "\n".join(out)
         if new != t:
             with open(p, "w", encoding="utf-8") as f:

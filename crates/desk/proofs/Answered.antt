@@ -1,6 +1,6 @@
 -- What a call to an open layer answers, from what its checks found.
 use Rattle.std.proofs.Common.{◌≡◌, ℕ, ◌<◌, Bool, true, false, ◌&&◌, ltb, List, [], ◌∷◌, ℤ, nat_abs, Some, None, Ok, Err, Option, Result, sym, refl, ap, ◌∙◌, subst, arith}
-use Rattle.std.proofs.lemmas.Bool.{cond_true, and_from, lt-ltb}
+use Rattle.std.proofs.lemmas.Bool.{cond-true, and_from, lt-ltb}
 use Rattle.raster.specs.Picture.{Picture, sizes}
 use Rattle.raster.specs.Calls.{BitmapCall, read_at, unless, first_fault, bitmap_fault, bitmap_value}
 use Rattle.raster.specs.declared.fault.Fault.{Fault}
@@ -55,6 +55,6 @@ module _ (screen store : Picture) (b : Book) (c : ℕ) where
         let lv : v < (frame_in b.plan c).h = subst (λ (z : Picture). v < z.height) is f.down in
         let z = unless_ok (bitmap_fault (sizes p) (read_at x y)) (nat_abs x, nat_abs y) (u, v) e in
         let at : held screen store b.plan b.slots c u v ≡ p.at u v =
-        sym (ap (λ (m : Picture). m.at u v) is ∙ cond_true _ _ _ (and_from _ _ (lt-ltb u (frame_in b.plan c).w lu) (lt-ltb v (frame_in b.plan c).h lv))) in
+        sym (ap (λ (m : Picture). m.at u v) is ∙ cond-true _ _ _ (and_from _ _ (lt-ltb u (frame_in b.plan c).w lu) (lt-ltb v (frame_in b.plan c).h lv))) in
         ap Ok (h (fitting screen store b q.0) (record { opened = q.1; across = lu; down = lv }) ∙ at ∙ ap (λ (w : ℕ × ℕ). p.at w.0 w.1) z.1)
         ∙ sym (answer_accepted d (read_layer c x y) (own_check (read_at x y) ∙ ap (carried c) z.0))

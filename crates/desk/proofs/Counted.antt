@@ -1,6 +1,6 @@
 -- The patches that have a slot are counted by the desk on paper.
 use Rattle.std.proofs.Common.{◌≡◌, ℕ, ◌<◌, Bool, true, false, cond, sym, refl, ap, ◌∙◌, ⊎_elim}
-use Rattle.std.proofs.lemmas.Bool.{cases_Bool, cond_true, cond_false}
+use Rattle.std.proofs.lemmas.Bool.{cases_Bool, cond-true, cond-false}
 use Rattle.raster.specs.Picture.{Picture, sizes}
 use Rattle.raster.specs.declared.size.Size.{Size}
 use Rattle.paper.specs.Layers.{new_desk}
@@ -31,7 +31,7 @@ module _ (screen store : Picture) (b : Book) where
   used_is =
       ⊎_elim
       (λ (t : made_for screen store b ≡ true).
-      cond_true (made_for screen store b) _ 0 t ∙ counted_alike (has_slot b.slots) (hidden_patch b.plan) 2400 b.held
+      cond-true (made_for screen store b) _ 0 t ∙ counted_alike (has_slot b.slots) (hidden_patch b.plan) 2400 b.held
       ∙ sym (ap hidden_count (paper_fits screen store b t) ∙ hidden_patches screen store b.plan b.slots (fitting screen store b t)))
-      (λ (t : made_for screen store b ≡ false). cond_false (made_for screen store b) _ 0 t ∙ sym (ap hidden_count (paper_other screen store b t) ∙ empty_count (sizes screen) (slots_of (sizes store) screen.depth)))
+      (λ (t : made_for screen store b ≡ false). cond-false (made_for screen store b) _ 0 t ∙ sym (ap hidden_count (paper_other screen store b t) ∙ empty_count (sizes screen) (slots_of (sizes store) screen.depth)))
       (cases_Bool (made_for screen store b))

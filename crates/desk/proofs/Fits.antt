@@ -1,6 +1,6 @@
 -- A desk whose book was made for its bitmaps, and one whose book was not.
 use Rattle.std.proofs.Common.{◌≡◌, ℕ, Bool, true, false, cond, not, eqb, ◌⊎◌, ℤ, is_err, None, Ok, Err, Option, sym, refl, ap, ◌∙◌, ⊎_elim}
-use Rattle.std.proofs.lemmas.Bool.{and_parts, eqb_true, cond_true, cond_false, cases_Bool, both_ways}
+use Rattle.std.proofs.lemmas.Bool.{and_parts, eqb-true, cond-true, cond-false, cases_Bool, both_ways}
 use Rattle.raster.specs.Picture.{Picture, sizes}
 use Rattle.raster.specs.declared.size.Size.{Size}
 use Rattle.paper.specs.Layers as paper
@@ -25,21 +25,21 @@ sizes_equal : (a b : Size) → same_size a b ≡ true → a ≡ b
 sizes_equal a b t =
     let q = and_parts (eqb a.width b.width) _ t in
     let r = and_parts (eqb a.height b.height) _ q.1 in
-    λ i. record { width = eqb_true a.width b.width q.0 i; height = eqb_true a.height b.height r.0 i; depth = eqb_true a.depth b.depth r.1 i }
+    λ i. record { width = eqb-true a.width b.width q.0 i; height = eqb-true a.height b.height r.0 i; depth = eqb-true a.depth b.depth r.1 i }
 
 module _ (screen store : Picture) (b : Book) where
   pub fitting : made_for screen store b ≡ true → Fitting screen store b.plan b.slots
   fitting t =
       let q = and_parts (same_size b.plan.screen (sizes screen)) _ t in
-      record { size = sizes_equal b.plan.screen (sizes screen) q.0; places = eqb_true b.slots.places _ q.1; fits = b.held }
+      record { size = sizes_equal b.plan.screen (sizes screen) q.0; places = eqb-true b.slots.places _ q.1; fits = b.held }
 
   pub paper_fits : made_for screen store b ≡ true → on_pictures screen store b ≡ paper_of screen store b.plan b.slots
   unfolding on_pictures
-  paper_fits t = cond_true (made_for screen store b) _ _ t
+  paper_fits t = cond-true (made_for screen store b) _ _ t
 
   pub paper_other : made_for screen store b ≡ false → on_pictures screen store b ≡ new_desk (sizes screen) (slots_of (sizes store) screen.depth)
   unfolding on_pictures
-  paper_other t = cond_false (made_for screen store b) _ _ t
+  paper_other t = cond-false (made_for screen store b) _ _ t
 
   pub open_fits : (c : ℕ) → made_for screen store b ≡ true → is_open c (on_pictures screen store b) ≡ has c (listed b.plan)
   open_fits c t = ap (is_open c) (paper_fits t) ∙ paper_open screen store b.plan b.slots c

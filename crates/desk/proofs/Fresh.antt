@@ -2,7 +2,7 @@
 use Rattle.std.proofs.Common.{◌≡◌, ℕ, ◌*◌, ◌/◌, ◌<◌, ◌≤◌, min, Bool, true, false, cond, ◌&&◌, eqb, ltb, ◌⊎◌, List, [], ℤ, pos, sym, refl, ap, ◌∙◌, ap₂, inl, inr, ⊎_elim, arith}
 use Rattle.std.proofs.lemmas.Nat.{mul-le}
 use Rattle.std.proofs.lemmas.Int.{ints}
-use Rattle.std.proofs.lemmas.Bool.{and_from, and_right, eq-eqb, lt-ltb, cond_true, cond_false, cases_Bool, cases_lt}
+use Rattle.std.proofs.lemmas.Bool.{and_from, and_right, eq-eqb, lt-ltb, cond-true, cond-false, cases_Bool, cases_lt}
 use Rattle.std.proofs.lemmas.Bool.Decides.{nat_tests}
 use Rattle.raster.specs.Picture.{Picture, sizes, painted, Sound}
 use Rattle.raster.specs.Calls.{fill_with, bitmap_after}
@@ -84,9 +84,9 @@ module _ (screen store : Picture) (b : Book) where
       → (used, places) ≡ slots_answer (on_pictures screen store b)
   unfolding used_by
   slots_fit t used places eu ep =
-      λ i. ((eu ∙ sym (cond_true (made_for screen store b) _ 0 t) ∙ used_is screen store b) i, (ep ∙ sym (paper_slots screen store b)) i)
+      λ i. ((eu ∙ sym (cond-true (made_for screen store b) _ 0 t) ∙ used_is screen store b) i, (ep ∙ sym (paper_slots screen store b)) i)
 
   pub slots_other : made_for screen store b ≡ false → (places : ℕ) → places ≡ slots_of (sizes store) screen.depth → ◌≡◌ {A = ℕ × ℕ} (0, places) (slots_answer (on_pictures screen store b))
   unfolding used_by
   slots_other t places ep =
-      λ i. ((sym (cond_false (made_for screen store b) _ 0 t) ∙ used_is screen store b) i, (ep ∙ sym (paper_slots screen store b)) i)
+      λ i. ((sym (cond-false (made_for screen store b) _ 0 t) ∙ used_is screen store b) i, (ep ∙ sym (paper_slots screen store b)) i)

@@ -1,6 +1,6 @@
 -- Moving a layer.
 use Rattle.std.proofs.Common.{◌≡◌, ℕ, ◌<◌, ◌≤◌, true, false, eqb, [], ◌∷◌, ℤ, Some, Ok, Err, Result, sym, refl, ap, ◌∙◌, subst, ⊎_elim}
-use Rattle.std.proofs.lemmas.Bool.{cases_Bool, eqb_true, eqb-false}
+use Rattle.std.proofs.lemmas.Bool.{cases_Bool, eqb-true, eqb-false}
 use Rattle.raster.specs.Picture.{Picture, Sound}
 use Rattle.raster.specs.Calls.{unless, first_fault}
 use Rattle.raster.specs.declared.refusal.Refusal.TheVariants.{TooFewSlots}
@@ -45,7 +45,7 @@ moved_still p q c x y was clients others own d h = record {
 }
   where
     by : (f : Frame → ℕ) → f (frame_in q c) ≡ f (frame_in p c) → f (frame_in p d) ≡ f (frame_in q d)
-    by f e = ⊎_elim (λ (t : eqb d c ≡ true). subst (λ k. f (frame_in p k) ≡ f (frame_in q k)) (sym (eqb_true d c t)) (sym e)) (λ (t : eqb d c ≡ false). ap f (sym (others d (eqb-false d c t)))) (cases_Bool (eqb d c))
+    by f e = ⊎_elim (λ (t : eqb d c ≡ true). subst (λ k. f (frame_in p k) ≡ f (frame_in q k)) (sym (eqb-true d c t)) (sym e)) (λ (t : eqb d c ≡ false). ap f (sym (others d (eqb-false d c t)))) (cases_Bool (eqb d c))
 
 moved_leads : (s m : Picture) (p q : Plan) (t : Slots) (c : ℕ) (x y : ℤ) → layers_in q ≡ alter c (at_corner x y) (layers_in p) → desk_with s m q (held s m p t) ≡ change (paper_of s m p t) (move_layer c x y)
 unfolding paper_of

@@ -1,7 +1,7 @@
 -- A stamp, pixel by pixel, and that it is the clipped BitBlt.
 use Rattle.std.proofs.Common.{◌≡◌, ℕ, ◌+◌, ◌-◌, ◌*◌, Bool, true, false, ◌&&◌, ◌||◌, eqb, pos, nat_abs, sym, refl, ap, ◌∙◌, ap₂, arith}
 use Rattle.std.proofs.lemmas.Bool.Decides.{nat_tests}
-use Rattle.std.proofs.lemmas.Bool.{and_parts, and_left, and_right, eqb_true, cond_false}
+use Rattle.std.proofs.lemmas.Bool.{and_parts, and_left, and_right, eqb-true, cond-false}
 use Rattle.raster.specs.Rules.{combined}
 use Rattle.raster.specs.Picture.{Picture, sizes, painted}
 use Rattle.raster.specs.Blt.{Transfer, holds, behind, concerned, from_picture, count, blt}
@@ -57,11 +57,11 @@ module _ (rule : ℕ) (source : Picture) (cols : Span) where
       (λ x z. ap (λ b. b && eqb z y) (more_between cols.first i x) ∙ or_and (eqb x at) (between cols.first i x) (eqb z y))
       (λ x z u.
       let k = and_parts (eqb x at) (eqb z y) u in
-      let ex : x ≡ at = eqb_true x at k.0 in
-      let ez : z ≡ y = eqb_true z y k.1 in
+      let ex : x ≡ at = eqb-true x at k.0 in
+      let ez : z ≡ y = eqb-true z y k.1 in
       ap (λ (n : Size). combined n.depth rule (source.at (cols.source + i) sy) ((painted p t (λ a b. stamped_value rule source cols p sy a b)).at at y)) (painted_sizes p t _)
       ∙ ap₂ (λ m n. combined p.depth rule m n) (ap (λ n. source.at n sy) (sym (back_from cols i x ex)))
-      (painted_at p t _ at y ∙ cond_false _ _ _ (and_left _ _ (not_between cols.first i)) ∙ ap₂ p.at (sym ex) (sym ez)))
+      (painted_at p t _ at y ∙ cond-false _ _ _ (and_left _ _ (not_between cols.first i)) ∙ ap₂ p.at (sym ex) (sym ez)))
 
   module _ (rows : Span) where
     pub rows_none : (p : Picture) → p ≡ stamped_rows rule source cols rows 0 p
@@ -79,10 +79,10 @@ module _ (rule : ℕ) (source : Picture) (cols : Span) where
         (λ x z. ap (λ b. spans cols x && b) (more_between rows.first j z) ∙ and_or (spans cols x) (eqb z at) (between rows.first j z))
         (λ x z u.
         let k = and_parts (spans cols x) (eqb z at) u in
-        let ez : z ≡ at = eqb_true z at k.1 in
+        let ez : z ≡ at = eqb-true z at k.1 in
         ap (λ (n : Size). combined n.depth rule (source.at (opposite cols x) (rows.source + j)) ((painted p t (λ a b. stamped_value rule source cols p (opposite rows b) a b)).at x z)) (painted_sizes p t _)
         ∙ ap₂ (λ m n. combined p.depth rule m n) (ap (source.at (opposite cols x)) (sym (back_from rows j z ez)))
-        (painted_at p t _ x z ∙ cond_false _ _ _ (and_right _ _ (ap (between rows.first j) ez ∙ not_between rows.first j))))
+        (painted_at p t _ x z ∙ cond-false _ _ _ (and_right _ _ (ap (between rows.first j) ez ∙ not_between rows.first j))))
 
 -- ── The clipped BitBlt ──
 

@@ -1,6 +1,6 @@
 -- Drawings on one layer: one after another, and of a single pixel.
 use Rattle.std.proofs.Common.{◌≡◌, ℕ, ◌^◌, ◌<◌, Bool, true, false, cond, ◌&&◌, eqb, ltb, [], pos, Some, Option, sym, refl, ap, ◌∙◌, subst, ap₂, arith, pow_mono}
-use Rattle.std.proofs.lemmas.Bool.{both_ways, and_parts, and_from, or_left, eqb_true, eq-eqb, lt-ltb}
+use Rattle.std.proofs.lemmas.Bool.{both_ways, and_parts, and_from, or_left, eqb-true, eq-eqb, lt-ltb}
 use Rattle.raster.specs.Picture.{Picture, sizes, painted, with_pixel}
 use Rattle.raster.specs.Blt.{inside}
 use Rattle.raster.specs.declared.size.Size.{Size}
@@ -76,7 +76,7 @@ module _ (screen store : Picture) (p : Plan) (t : Slots) (f : Fitting screen sto
       pixel_either value (held screen store p t c a b) (eqb a u && eqb b v) within
       (λ e.
       let q = and_parts (eqb a u) (eqb b v) e in
-      and_from _ _ (lt-ltb a _ (omega (arith, eqb_true a u q.0, o.across))) (lt-ltb b _ (omega (arith, eqb_true b v q.1, o.down))))
+      and_from _ _ (lt-ltb a _ (omega (arith, eqb-true a u q.0, o.across))) (lt-ltb b _ (omega (arith, eqb-true b v q.1, o.down))))
       ∙ ap (λ z. cond within (cond (z && (eqb a u && eqb b v)) value (held screen store p t c a b)) 0) (sym (eq-eqb c c refl)))
 
   -- a visible pixel's place is covered, so that no other place of the screen changes

@@ -1,6 +1,6 @@
 -- A pixel's spot, from what an arrangement and a table answer.
 use Rattle.std.proofs.Common.{◌≡◌, ℕ, ◌+◌, ◌*◌, ◌/◌, ◌<◌, ◌≤◌, min, Bool, true, false, cond, ◌&&◌, ltb, pos, ◌+ℤ◌, nat_abs, Some, None, Option, sym, refl, ap, ◌∙◌, subst, ap₂, arith}
-use Rattle.std.proofs.lemmas.Bool.{and_from, lt-ltb, cond_true, cond_false}
+use Rattle.std.proofs.lemmas.Bool.{and_from, lt-ltb, cond-true, cond-false}
 use Rattle.raster.specs.Picture.{Picture}
 use Rattle.plan.specs.declared.plan.Plan.{Plan}
 use Rattle.slots.specs.declared.slots.Slots.{Slots}
@@ -35,7 +35,7 @@ module _ (width : ℕ) (p : Plan) (t : Slots) (c u v : ℕ) where
 
   pub found_stored : seen p c u v ≡ false → store_spot width t c u v ≡ spot_of width p t c u v
   unfolding spot_of
-  found_stored off = sym (cond_false _ _ _ off)
+  found_stored off = sym (cond-false _ _ _ off)
 
   module _ (screen store : Picture) (f : Fitting screen store p t) (w : store.width ≡ width) (o : OwnPixel p c u v) (off : seen p c u v ≡ false) where
     -- the table has the slot of an obscured pixel
@@ -44,7 +44,7 @@ module _ (width : ℕ) (p : Plan) (t : Slots) (c u v : ℕ) where
         let low = own_patch p c u v o in
         let same : k ≡ patch_at c (u / 16) (v / 16) = omega arith in
         let taken = slot_there p c u v o t f.fits off in
-        cond_true _ _ _ (and_from _ _ (lt-ltb k 2400 (omega arith)) (ap (has_slot t) same ∙ lt-ltb _ _ taken)) ∙ ap (λ n. Some (slot_of t n)) same
+        cond-true _ _ _ (and_from _ _ (lt-ltb k 2400 (omega arith)) (ap (has_slot t) same ∙ lt-ltb _ _ taken)) ∙ ap (λ n. Some (slot_of t n)) same
 
     -- and the store is as wide as a slot
     pub found_wide : 16 ≤ width

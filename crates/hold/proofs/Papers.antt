@@ -1,6 +1,6 @@
 -- The desk on paper that screen and store hold: its layers by the pixels held, and as those change.
 use Rattle.std.proofs.Common.{◌≡◌, ℕ, ◌<◌, Bool, true, false, cond, not, ◌&&◌, ◌||◌, eqb, ltb, List, [], ◌∷◌, ℤ, Some, sym, refl, ap, ◌∙◌, ap₂, ⊎_elim}
-use Rattle.std.proofs.lemmas.Bool.{both_ways, false≢true, and_parts, and_from, or_left, or_right, not-true, eqb_true, eq-eqb, ltb_true, lt-ltb, cases_Bool, cond_true}
+use Rattle.std.proofs.lemmas.Bool.{both_ways, false≢true, and_parts, and_from, or_left, or_right, not-true, eqb-true, eq-eqb, ltb-true, lt-ltb, cases_Bool, cond-true}
 use Rattle.raster.specs.Picture.{Picture, sizes}
 use Rattle.raster.specs.declared.size.Size.{Size}
 use Rattle.paper.specs.Layers.{Layer, covers, covered, pixels_of, or_blank, alter, with_pixels}
@@ -33,14 +33,14 @@ module _ (depth : ℕ) (p : Plan) (px qx : Pixels) where
       })
       (λ i u v.
       either_within (ltb u (frame_in p c).w && ltb v (frame_in p c).h) (px c u v) (qx c u v)
-      (λ e. let q = and_parts (ltb u (frame_in p c).w) (ltb v (frame_in p c).h) e in h u v (ltb_true u _ q.0) (ltb_true v _ q.1)) i)
+      (λ e. let q = and_parts (ltb u (frame_in p c).w) (ltb v (frame_in p c).h) e in h u v (ltb-true u _ q.0) (ltb-true v _ q.1)) i)
 
   pub layers_same : (cs : List ℕ) → ((c : ℕ) → has c cs ≡ true → Agree p px qx c) → layers_with depth p px cs ≡ layers_with depth p qx cs
   layers_same [] h = refl
   layers_same (c ∷ cs) h = ap₂ ◌∷◌ (layer_same c (h c (or_left _ _ (eq-eqb c c refl)))) (layers_same cs (λ d m. h d (or_right _ _ m)))
 
   has_not : (c e : ℕ) (ds : List ℕ) → has c ds ≡ false → has e ds ≡ true → eqb e c ≡ false
-  has_not c e ds n m = ⊎_elim (λ (t : eqb e c ≡ true). absurd (both_ways (has c ds) n (ap (λ k. has k ds) (sym (eqb_true e c t)) ∙ m))) (λ (t : eqb e c ≡ false). t) (cases_Bool (eqb e c))
+  has_not c e ds n m = ⊎_elim (λ (t : eqb e c ≡ true). absurd (both_ways (has c ds) n (ap (λ k. has k ds) (sym (eqb-true e c t)) ∙ m))) (λ (t : eqb e c ≡ false). t) (cases_Bool (eqb e c))
 
   -- other pixels of one client are a painting of its layer
   pub layers_altered : (c : ℕ) (cs : List ℕ) → distinct cs ≡ true → ((d : ℕ) → has d cs ≡ true → eqb d c ≡ false → Agree p px qx d)
@@ -55,7 +55,7 @@ module _ (depth : ℕ) (p : Plan) (px qx : Pixels) where
           ≡ cond b (with_pixels (layer_with depth p px c).pixels (layer_with depth p qx d) ∷ layers_with depth p qx ds)
           (layer_with depth p qx d ∷ alter c (with_pixels (layer_with depth p px c).pixels) (layers_with depth p qx ds))
       go ih n true e =
-          let same = eqb_true d c e in
+          let same = eqb-true d c e in
           ap₂ ◌∷◌ (ap (λ k. with_pixels (layer_with depth p px k).pixels (layer_with depth p qx d)) same)
           (layers_same ds (λ k m. h k (or_right _ _ m) (has_not c k ds (ap (λ z. has z ds) (sym same) ∙ n) m)))
       go ih n false e = ap₂ ◌∷◌ (layer_same d (h d (or_left _ _ (eq-eqb d d refl)) e)) ih
@@ -67,7 +67,7 @@ module _ (depth : ℕ) (p : Plan) (px : Pixels) where
     where
       go : (has c ds ≡ true → pixels_of c (layers_with depth p px ds) ≡ Some (layer_with depth p px c).pixels) → (b : Bool) → eqb d c ≡ b → (b || has c ds) ≡ true
           → cond b (Some (layer_with depth p px d).pixels) (pixels_of c (layers_with depth p px ds)) ≡ Some (layer_with depth p px c).pixels
-      go ih true e m = ap (λ k. Some (layer_with depth p px k).pixels) (eqb_true d c e)
+      go ih true e m = ap (λ k. Some (layer_with depth p px k).pixels) (eqb-true d c e)
       go ih false e m = ih m
 
   -- they cover what their outlines cover
@@ -97,7 +97,7 @@ module _ (screen store : Picture) (p : Plan) (t : Slots) where
   layer_size c h = ap sizes (held_pane c h)
 
   pub layer_at : (c u v : ℕ) → OwnPixel p c u v → (layer_held screen store p t c).at u v ≡ held screen store p t c u v
-  layer_at c u v o = ap (λ (q : Picture). q.at u v) (held_pane c o.opened) ∙ cond_true _ _ _ (and_from _ _ (lt-ltb u _ o.across) (lt-ltb v _ o.down))
+  layer_at c u v o = ap (λ (q : Picture). q.at u v) (held_pane c o.opened) ∙ cond-true _ _ _ (and_from _ _ (lt-ltb u _ o.across) (lt-ltb v _ o.down))
 
   pub paper_covered : (x y : ℤ) → covered (paper_of screen store p t).layers x y ≡ covered (layers_in p) x y
   unfolding paper_of

@@ -3,7 +3,7 @@ use Rattle.std.proofs.Common.{◌≡◌, ℕ, zero, suc, ◌+◌, ◌*◌, ◌/�
 use native.Mathlib.Nat.{div-add-mod}
 use Rattle.std.proofs.lemmas.Int.{ints}
 use Rattle.std.proofs.lemmas.Bool.Decides.{nat_tests}
-use Rattle.std.proofs.lemmas.Bool.{both_ways, false≢true, and_parts, and_from, or_left, or_right, not-true, not_from_false, eqb_true, ltb_true, ltb-false, lt-ltb, cases_eq}
+use Rattle.std.proofs.lemmas.Bool.{both_ways, false≢true, and_parts, and_from, or_left, or_right, not-true, not_from_false, eqb-true, ltb-true, ltb-false, lt-ltb, cases_eq}
 use Rattle.raster.specs.Picture.{Picture, sizes}
 use Rattle.raster.specs.Blt.{holds, inside}
 use Rattle.raster.specs.Calls.{any_below}
@@ -34,7 +34,7 @@ module _ (fs : List Frame) where
     where
       go : (has c ds ≡ true → covers (outline c (get_or fs c no_frame)) x y ≡ true → covered (outlines ds fs) x y ≡ true) → (b : Bool) → eqb d c ≡ b → (b || has c ds) ≡ true
           → (covers (outline d (get_or fs d no_frame)) x y || covered (outlines ds fs) x y) ≡ true
-      go ih true e m = or_left _ _ (ap (λ n. covers (outline n (get_or fs n no_frame)) x y) (eqb_true d c e) ∙ k)
+      go ih true e m = or_left _ _ (ap (λ n. covers (outline n (get_or fs n no_frame)) x y) (eqb-true d c e) ∙ k)
       go ih false e m = or_right _ _ (ih m k)
 
   -- of two layers that cover a place one is covered by the other
@@ -48,7 +48,7 @@ module _ (fs : List Frame) where
           → covered (above c (outlines es fs)) x y ≡ false → covered (above d (outlines es fs)) x y ≡ false → ⊥)
           → (a : Bool) → eqb e c ≡ a → (b : Bool) → eqb e d ≡ b → (a || has c es) ≡ true → (b || has d es) ≡ true
           → covered (cond a (outlines es fs) (above c (outlines es fs))) x y ≡ false → covered (cond b (outlines es fs) (above d (outlines es fs))) x y ≡ false → ⊥
-      go ih true ea true eb mc md gc gd = ne (sym (eqb_true e c ea) ∙ eqb_true e d eb)
+      go ih true ea true eb mc md gc gd = ne (sym (eqb-true e c ea) ∙ eqb-true e d eb)
       go ih true ea false eb mc md gc gd = both_ways _ gc (covered_listed d x y es md kd)
       go ih false ea true eb mc md gc gd = both_ways _ gd (covered_listed c x y es mc kc)
       go ih false ea false eb mc md gc gd = ih mc md kc kd gc gd
@@ -127,7 +127,7 @@ module _ (p : Plan) (c u v : ℕ) (o : OwnPixel p c u v) where
   slot_there t fits e =
       let l = outline c (frame_in p c) in
       let ob : obscured p.screen (above c (layers_in p)) l u v ≡ true = and_from _ _ (and_from _ _ (lt-ltb u _ o.across) (lt-ltb v _ o.down)) (not_from_false _ e) in
-      ltb_true _ _
+      ltb-true _ _
       (fits (patch_at c (u / 16) (v / 16)) own_patch ∙ own_hidden ∙ hidden_open p.screen p.frames c (u / 16) (v / 16) (listed p) o.opened
       ∙ obscured_hides p.screen (above c (layers_in p)) l u v ob)
 

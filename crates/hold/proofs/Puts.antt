@@ -1,6 +1,6 @@
 -- A value put at the spot of a pixel: that pixel has it, and every other of an open layer stays.
 use Rattle.std.proofs.Common.{◌≡◌, ℕ, ◌%◌, ◌^◌, ◌<◌, Bool, true, false, cond, ◌&&◌, eqb, ◌⊎◌, sym, refl, ap, ◌∙◌, ap₂, ⊎_elim, mod-eq_of_lt}
-use Rattle.std.proofs.lemmas.Bool.{true≢false, and_parts, and_from, eqb_true, eq-eqb, cases_Bool, cond_true, cond_false}
+use Rattle.std.proofs.lemmas.Bool.{true≢false, and_parts, and_from, eqb-true, eq-eqb, cases_Bool, cond-true, cond-false}
 use Rattle.raster.specs.Picture.{Picture, sizes, painted, with_pixel}
 use Rattle.raster.specs.declared.size.Size.{Size}
 use Rattle.raster.proofs.Paints.{painted_sizes, painted_at}
@@ -32,13 +32,13 @@ fitting_same screen store screen' store' p t e e' f = record {
 -- a picture with a value at (x, y), there and elsewhere
 
 here : (p : Picture) (x y value : ℕ) → (with_pixel p x y value).at x y ≡ value
-here p x y value = painted_at p _ _ x y ∙ cond_true _ _ _ (and_from _ _ (eq-eqb x x refl) (eq-eqb y y refl))
+here p x y value = painted_at p _ _ x y ∙ cond-true _ _ _ (and_from _ _ (eq-eqb x x refl) (eq-eqb y y refl))
 
 pub elsewhere : (p : Picture) (x y value a b : ℕ) → ((a ≡ x) × (b ≡ y) → ⊥) → (with_pixel p x y value).at a b ≡ p.at a b
 elsewhere p x y value a b ne =
     painted_at p _ _ a b
-    ∙ ⊎_elim (λ (t : (eqb a x && eqb b y) ≡ true). let q = and_parts (eqb a x) (eqb b y) t in absurd (ne (eqb_true a x q.0, eqb_true b y q.1)))
-    (λ (t : (eqb a x && eqb b y) ≡ false). cond_false _ _ _ t) (cases_Bool (eqb a x && eqb b y))
+    ∙ ⊎_elim (λ (t : (eqb a x && eqb b y) ≡ true). let q = and_parts (eqb a x) (eqb b y) t in absurd (ne (eqb-true a x q.0, eqb-true b y q.1)))
+    (λ (t : (eqb a x && eqb b y) ≡ false). cond-false _ _ _ t) (cases_Bool (eqb a x && eqb b y))
 
 module _ (screen store : Picture) (value : ℕ) where
   pub look_here : value < 2 ^ screen.depth → (at : Spot) → look (screen_with screen at value) (store_with store at value) at ≡ value
@@ -62,7 +62,7 @@ module _ (screen store : Picture) (value : ℕ) where
         let q = and_parts (eqb d c) (eqb a u && eqb b v) e in
         let r = and_parts (eqb a u) (eqb b v) q.1 in
         ap (look (screen_with screen at value) (store_with store at value))
-        (λ i. spot_of store.width p t (eqb_true d c q.0 i) (eqb_true a u r.0 i) (eqb_true b v r.1 i))
+        (λ i. spot_of store.width p t (eqb-true d c q.0 i) (eqb-true a u r.0 i) (eqb-true b v r.1 i))
         ∙ look_here small at
     put_look d a b o' false e =
         look_others at (spot_of store.width p t d a b)

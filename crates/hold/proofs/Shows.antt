@@ -2,7 +2,7 @@
 use Rattle.std.proofs.Common.{◌≡◌, ℕ, ◌<◌, Bool, true, false, cond, not, ◌&&◌, ◌||◌, eqb, List, [], ◌∷◌, ℤ, pos, ◌+ℤ◌, ◌-ℤ◌, nat_abs, is_some, Some, None, Option, sym, refl, ap, ◌∙◌, ap₂, ⊎_elim, arith}
 use Rattle.std.proofs.lemmas.Int.{ints}
 use Rattle.std.proofs.lemmas.Bool.Decides.{nat_tests}
-use Rattle.std.proofs.lemmas.Bool.{both_ways, false≢true, and_parts, and_from, or_left, or_right, not-true, not_from_false, eqb_true, eq-eqb, lt-ltb, cases_Bool, cond_true}
+use Rattle.std.proofs.lemmas.Bool.{both_ways, false≢true, and_parts, and_from, or_left, or_right, not-true, not_from_false, eqb-true, eq-eqb, lt-ltb, cases_Bool, cond-true}
 use Rattle.raster.specs.Picture.{Picture, sizes, painted}
 use Rattle.raster.specs.Blt.{holds, inside}
 use Rattle.raster.specs.declared.size.Size.{Size}
@@ -66,7 +66,7 @@ module _ (depth : ℕ) (p : Plan) (px : Pixels) (x y value : ℕ) where
           (ap (λ b. covered (cond b (outlines ds p.frames) (above c (outlines ds p.frames))) (pos x) (pos y)) (apart n c m) ∙ free)
         where
           apart : has d ds ≡ false → (c : ℕ) → has c ds ≡ true → eqb d c ≡ false
-          apart n c m = ⊎_elim (λ (t : eqb d c ≡ true). absurd (both_ways (has d ds) n (ap (λ k. has k ds) (eqb_true d c t) ∙ m))) (λ (t : eqb d c ≡ false). t) (cases_Bool (eqb d c))
+          apart n c m = ⊎_elim (λ (t : eqb d c ≡ true). absurd (both_ways (has d ds) n (ap (λ k. has k ds) (eqb-true d c t) ∙ m))) (λ (t : eqb d c ≡ false). t) (cases_Bool (eqb d c))
 
       go : (Shows ds → covered (outlines ds p.frames) (pos x) (pos y) ≡ true → shown (layers_with depth p px ds) (pos x) (pos y) ≡ value) → has d ds ≡ false
           → (b : Bool) → covered (outlines ds p.frames) (pos x) (pos y) ≡ b → shown (layers_with depth p px (d ∷ ds)) (pos x) (pos y) ≡ value
@@ -77,7 +77,7 @@ module _ (depth : ℕ) (p : Plan) (px : Pixels) (x y value : ℕ) where
           let k : covers (outline d f) (pos x) (pos y) ≡ true = only_left _ _ e c in
           let w = pixel_at d f x y k in
           shown_here (layer_with depth p px d) (layers_with depth p px ds) (pos x) (pos y) (covered_with depth p px ds (pos x) (pos y) ∙ c) k
-          ∙ cond_true _ _ _ (and_from _ _ (lt-ltb _ _ w.across) (lt-ltb _ _ w.down))
+          ∙ cond-true _ _ _ (and_from _ _ (lt-ltb _ _ w.across) (lt-ltb _ _ w.down))
           ∙ s d _ _ (or_left _ _ (eq-eqb d d refl)) w (ap (λ b. covered (cond b (outlines ds p.frames) (above d (outlines ds p.frames))) (pos x) (pos y)) (eq-eqb d d refl) ∙ c)
 
 module _ (screen store : Picture) (p : Plan) (t : Slots) (f : Fitting screen store p t) where

@@ -3,7 +3,7 @@ use Rattle.std.proofs.Common.{◌≡◌, ℕ, ◌+◌, ◌-◌, ◌*◌, ◌/◌
 use Rattle.std.proofs.lemmas.Nat.{pow_pos}
 use Rattle.std.proofs.lemmas.Bool.Decides.{nat_tests}
 use Rattle.std.proofs.lemmas.Int.{ints}
-use Rattle.std.proofs.lemmas.Bool.{and_parts, and_from, both_ways, cond_true, cond_false, cases_Bool, cases_lt, lt-leb, lt-ltb, ltb_true}
+use Rattle.std.proofs.lemmas.Bool.{and_parts, and_from, both_ways, cond-true, cond-false, cases_Bool, cases_lt, lt-leb, lt-ltb, ltb-true}
 use Rattle.raster.specs.Picture.{Picture, sizes, painted}
 use Rattle.raster.specs.Blt.{holds, in_rectangle, inside, concerned, everywhere, blt}
 use Rattle.raster.specs.Blits.{between}
@@ -129,11 +129,11 @@ module _ (t : Slots) (c : ℕ) (m : Picture) where
           (λ (h : patch_within u v < i). either (in_slot m.width (slot_of t (300 * c + i)) (store_x m.width t c u v) (store_y m.width t c u v)) _ (d.cleared u v hu hv h q))
           (λ (h : i ≤ patch_within u v).
           let e : patch_within u v ≡ i = omega arith in
-          cond_true _ 0 _ (ap (λ n. in_slot m.width (slot_of t n) (store_x m.width t c u v) (store_y m.width t c u v)) (sym (own_patch i u v e))
+          cond-true _ 0 _ (ap (λ n. in_slot m.width (slot_of t n) (store_x m.width t c u v) (store_y m.width t c u v)) (sym (own_patch i u v e))
           ∙ and_from _ _ (in_square (slot_x m.width (own_slot t c u v)) (u % 16) (mod-lt u (omega arith))) (in_square (slot_y m.width (own_slot t c u v)) (v % 16) (mod-lt v (omega arith))))) (cases_lt (patch_within u v) i);
       others = λ a b h. there a b ∙ ⊎_elim
           (λ (e : in_slot m.width (slot_of t (300 * c + i)) a b ≡ true). absurd (inner a b h e))
-          (λ (e : in_slot m.width (slot_of t (300 * c + i)) a b ≡ false). cond_false _ 0 _ e ∙ d.others a b (λ u v hu hv l q ea eb. h u v hu hv (omega arith) q ea eb))
+          (λ (e : in_slot m.width (slot_of t (300 * c + i)) a b ≡ false). cond-false _ 0 _ e ∙ d.others a b (λ u v hu hv l q ea eb. h u v hu hv (omega arith) q ea eb))
           (cases_Bool (in_slot m.width (slot_of t (300 * c + i)) a b));
     }
       where
@@ -184,7 +184,7 @@ module _ (t : Slots) (c i n : ℕ) (m m' : Picture) (few : t.places ≤ (m.width
   blank_turn k m'' e h =
       let q = slot_found t n k e in
       let ek : k ≡ slot_of t (300 * c + i) = q.0 ∙ ap (slot_of t) en in
-      let l : slot_of t n < t.places = ltb_true _ _ q.1 in
+      let l : slot_of t n < t.places = ltb-true _ _ q.1 in
       let q0 = q.0 in
       let less : k < (m.width / 16) * (m.height / 16) = omega arith in
       let less' : k < (m'.width / 16) * (m'.height / 16) = subst (λ (z : Size). k < (z.width / 16) * (z.height / 16)) (sym size) less in

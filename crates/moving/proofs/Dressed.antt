@@ -1,6 +1,6 @@
 -- Layers with pixels, over the outlines of an arrangement.
 use Rattle.std.proofs.Common.{◌≡◌, ℕ, Bool, true, false, cond, ◌&&◌, eqb, ltb, List, [], ◌∷◌, ◌++◌, ℤ, pos, Some, None, Option, refl, ap, ◌∙◌, ap₂}
-use Rattle.std.proofs.lemmas.Bool.{and_from, lt-ltb, cond_true}
+use Rattle.std.proofs.lemmas.Bool.{and_from, lt-ltb, cond-true}
 use Rattle.paper.specs.Layers.{Layer, or_else, covers, topmost, pixel_of, shown, keep, alter, at_corner}
 use Rattle.plan.specs.declared.plan.Plan.{Plan}
 use Rattle.plan.specs.Plans.{outline, outlines, listed, layers_in, frame_in}
@@ -75,4 +75,4 @@ module _ (depth : ℕ) (p : Plan) (px : Pixels) where
       ap (λ ls. topmost ls (pos x) (pos y)) (dressed_layers depth p px (listed p)) ∙ dress_topmost depth px (layers_in p) (pos x) (pos y) ∙ ap (dressed_if depth px) s.top in
       ap (λ o. pixel_of o (pos x) (pos y)) e
       ∙ ap₂ (dressed depth px (outline d (frame_in p d))).pixels.at (place_from (frame_in p d).x x u s.across) (place_from (frame_in p d).y y v s.down)
-      ∙ cond_true _ (px d u v) 0 (and_from _ _ (lt-ltb u _ s.column) (lt-ltb v _ s.row))
+      ∙ cond-true _ (px d u v) 0 (and_from _ _ (lt-ltb u _ s.column) (lt-ltb v _ s.row))

@@ -1,7 +1,7 @@
 -- A new layer: after the others were stowed, its part of the screen set to 0 and its slots blanked, every pixel is where its spot says.
 use Rattle.std.proofs.Common.{◌≡◌, ℕ, ◌/◌, ◌%◌, ◌^◌, ◌<◌, Bool, true, false, cond, eqb, pos, is_some, Some, sym, refl, ap, ◌∙◌, subst, ap₂, ⊎_elim}
 use native.Mathlib.Nat.{zero-mod}
-use Rattle.std.proofs.lemmas.Bool.{and_from, and_right, or_right, both_ways, cond_true, cond_false, cases_Bool, eqb_true, eq-eqb}
+use Rattle.std.proofs.lemmas.Bool.{and_from, and_right, or_right, both_ways, cond-true, cond-false, cases_Bool, eqb-true, eq-eqb}
 use Rattle.raster.specs.Picture.{Picture, sizes, painted}
 use Rattle.raster.specs.Blt.{in_rectangle, inside}
 use Rattle.raster.specs.declared.size.Size.{Size}
@@ -66,7 +66,7 @@ module _ (p q : Plan) (t t' t'' : Slots) (c : ℕ) (px : Pixels) (s m m' m'' s' 
             let i : at x y ≡ true =
             and_from _ _ (ap (λ (n : ℕ). in_rectangle (frame_in q n).x (frame_in q n).y (frame_in q n).w (frame_in q n).h (pos x) (pos y)) (sym e) ∙ o'.covers)
             (ap (λ n. inside n (pos x) (pos y)) (sym work.same_screen) ∙ z.on) in
-            held_seen s' m'' q t'' d u v o ∙ there x y ∙ cond_true _ 0 (s.at x y) i
+            held_seen s' m'' q t'' d u v o ∙ there x y ∙ cond-true _ 0 (s.at x y) i
 
         stored : seen q d u v ≡ false → held s' m'' q t'' d u v ≡ 0
         stored o =
@@ -95,7 +95,7 @@ module _ (p q : Plan) (t t' t'' : Slots) (c : ℕ) (px : Pixels) (s m m' m'' s' 
             let same : outline c (frame_in q c) ≡ outline d (frame_in q d) = cc_some _ _ (sym (on_top x y w) ∙ z.shows.top) in
             absurd (both_ways (eqb d c) e (eq-eqb d c (sym (ap (λ l. l.client) same))))) (λ (w : at x y ≡ false). w) (cases_Bool (at x y)) in
             let z' = shown_by p x y d u v (frame_in q d) (sym (work.off x y on i) ∙ z.shows.top) z.shows.across z.shows.down in
-            held_seen s' m'' q t'' d u v o ∙ there x y ∙ cond_false _ 0 (s.at x y) i ∙ was_there s m p t px holds x y d u v z' on
+            held_seen s' m'' q t'' d u v o ∙ there x y ∙ cond-false _ 0 (s.at x y) i ∙ was_there s m p t px holds x y d u v z' on
           where
             cc_some : {A : Type 0} (a b : A) → Some a ≡ Some b → a ≡ b
             cc_some a b e = cc
@@ -116,14 +116,14 @@ module _ (p q : Plan) (t t' t'' : Slots) (c : ℕ) (px : Pixels) (s m m' m'' s' 
 
   pub opened : Holds s' m'' q t'' (fresh c px)
   opened d h u v hu hv =
-      ⊎_elim (λ (e : eqb d c ≡ true). own d u v h hu hv (eqb_true d c e) ∙ sym (cond_true (eqb d c) 0 (px d u v) e))
-      (λ (e : eqb d c ≡ false). other d u v h hu hv e ∙ sym (cond_false (eqb d c) 0 (px d u v) e)) (cases_Bool (eqb d c))
+      ⊎_elim (λ (e : eqb d c ≡ true). own d u v h hu hv (eqb-true d c e) ∙ sym (cond-true (eqb d c) 0 (px d u v) e))
+      (λ (e : eqb d c ≡ false). other d u v h hu hv e ∙ sym (cond-false (eqb d c) 0 (px d u v) e)) (cases_Bool (eqb d c))
 
   pub opened_screen : p.screen ≡ sizes s → s' ≡ screen_after s (desk_with s m p px) (desk_with s m q (fresh c px))
   opened_screen fit =
       screen_shows s s' m m'' p q t'' px (fresh c px) opened opened_sizes (work.same_screen ∙ fit)
       (λ x y e n. bare x y e n (at x y) refl)
-      (λ x y e. there x y ∙ cond_false _ 0 (s.at x y) (and_right _ _ (ap (λ z. inside z (pos x) (pos y)) fit ∙ e)))
+      (λ x y e. there x y ∙ cond-false _ 0 (s.at x y) (and_right _ _ (ap (λ z. inside z (pos x) (pos y)) fit ∙ e)))
     where
       bare : (x y : ℕ) → inside (sizes s) (pos x) (pos y) ≡ true → covered (layers_in q) (pos x) (pos y) ≡ false → (b : Bool) → at x y ≡ b
           → s'.at x y ≡ cond (covered (layers_in p) (pos x) (pos y)) 0 (s.at x y)
@@ -131,4 +131,4 @@ module _ (p q : Plan) (t t' t'' : Slots) (c : ℕ) (px : Pixels) (s m m' m'' s' 
       bare x y e n false w =
           let same = work.off x y (ap (λ z. inside z (pos x) (pos y)) fit ∙ e) w in
           let b : covered (layers_in p) (pos x) (pos y) ≡ false = topmost_tells (layers_in p) (pos x) (pos y) ∙ ap is_some (sym same) ∙ sym (topmost_tells (layers_in q) (pos x) (pos y)) ∙ n in
-          there x y ∙ cond_false _ 0 (s.at x y) w ∙ sym (cond_false _ 0 (s.at x y) b)
+          there x y ∙ cond-false _ 0 (s.at x y) w ∙ sym (cond-false _ 0 (s.at x y) b)

@@ -1,7 +1,7 @@
 -- Raise, lower, close, move and open: at which places another layer may come to show, and the desk on paper after each.
 use Rattle.std.proofs.Common.{◌≡◌, ℕ, ◌*◌, ◌/◌, ◌%◌, ◌<◌, Bool, true, false, cond, not, ◌&&◌, ◌||◌, eqb, ltb, List, [], ◌∷◌, ◌++◌, get_or, ℤ, pos, is_some, Some, None, Option, sym, refl, ap, ◌∙◌, ap₂, ⊎_elim, arith}
 use Rattle.std.proofs.lemmas.Bool.Decides.{nat_tests}
-use Rattle.std.proofs.lemmas.Bool.{and_parts, and_from, and_cases, or_left, or_right, or_parts, or_from, or_cases, both_ways, eqb_true, eq-eqb, lt-ltb}
+use Rattle.std.proofs.lemmas.Bool.{and_parts, and_from, and_cases, or_left, or_right, or_parts, or_from, or_cases, both_ways, eqb-true, eq-eqb, lt-ltb}
 use Rattle.raster.specs.Picture.{Picture}
 use Rattle.raster.specs.Blt.{inside}
 use Rattle.paper.specs.Layers.{Layer, with_layers, or_else, covers, covered, topmost, only, without, alter, at_corner}
@@ -65,7 +65,7 @@ module _ (c : ℕ) (x y : ℤ) where
           → covered (only c (l ∷ ls)) x y ≡ false → covered (only c (cond b (f l ∷ ls) (l ∷ alter c f ls))) x y ≡ false
           → topmost (cond b (f l ∷ ls) (l ∷ alter c f ls)) x y ≡ topmost (l ∷ ls) x y
       go ih true e n n' =
-          let own : eqb c l.client ≡ true = eq-eqb c l.client (sym (eqb_true l.client c e)) in
+          let own : eqb c l.client ≡ true = eq-eqb c l.client (sym (eqb-true l.client c e)) in
           let a : covers l x y ≡ false = (or_parts (covers l x y) _ (ap (λ b. covered (cond b (l ∷ only c ls) (only c ls)) x y) (sym own) ∙ n)).0 in
           let b : covers (f l) x y ≡ false = (or_parts (covers (f l) x y) _ (ap (λ b. covered (cond b (f l ∷ only c ls) (only c ls)) x y) (sym (ap (eqb c) (same l) ∙ own)) ∙ n')).0 in
           ap (λ b. or_else (topmost ls x y) (cond b (Some (f l)) None)) b ∙ ap (λ b. or_else (topmost ls x y) (cond b (Some l) None)) (sym a)
@@ -82,7 +82,7 @@ only_covered c [] fs x y n = refl
 only_covered c (d ∷ ds) fs x y n = go (only_covered c ds fs x y n) (eqb c d) refl
   where
     go : covered (only c (outlines ds fs)) x y ≡ false → (b : Bool) → eqb c d ≡ b → covered (cond b (outline d (get_or fs d no_frame) ∷ only c (outlines ds fs)) (only c (outlines ds fs))) x y ≡ false
-    go ih true e = or_from _ _ (ap (λ k. covers (outline k (get_or fs k no_frame)) x y) (sym (eqb_true c d e)) ∙ n) ih
+    go ih true e = or_from _ _ (ap (λ k. covers (outline k (get_or fs k no_frame)) x y) (sym (eqb-true c d e)) ∙ n) ih
     go ih false e = ih
 
 -- the places of a client's frame on the screen
@@ -216,7 +216,7 @@ opened_paper s m p q c f px none e =
     others d h u v hu hv = go (eqb d c) refl
       where
         go : (b : Bool) → eqb d c ≡ b → cond b 0 (px d u v) ≡ px d u v
-        go true k = absurd (both_ways (has c (listed p)) none (ap (λ n. has n (listed p)) (sym (eqb_true d c k)) ∙ h))
+        go true k = absurd (both_ways (has c (listed p)) none (ap (λ n. has n (listed p)) (sym (eqb-true d c k)) ∙ h))
         go false k = refl
 
     nothing : (u v : ℕ) → cond (ltb u f.w && ltb v f.h) (fresh c px c u v) 0 ≡ 0

@@ -1,6 +1,6 @@
 -- What each call comes to, on paper and on the screen.
 use Rattle.std.proofs.Common.{◌≡◌, ℕ, Bool, true, false, not, ◌||◌, eqb, [], ◌∷◌, ◌++◌, pos, Some, sym, refl, ap, ◌∙◌, subst, ap₂, ⊎_elim}
-use Rattle.std.proofs.lemmas.Bool.{and_parts, or_cases, or_right, eqb_true, eqb-false, cases_Bool}
+use Rattle.std.proofs.lemmas.Bool.{and_parts, or_cases, or_right, eqb-true, eqb-false, cases_Bool}
 use Rattle.raster.specs.Picture.{Picture, sizes, painted}
 use Rattle.raster.specs.Calls.{fill_with, bitmap_after}
 use Rattle.raster.specs.declared.size.Size.{Size}
@@ -87,7 +87,7 @@ opens s m m₁ s' m' p q t t' t'' c f b can a others own st bl re =
   where
     known : (d : ℕ) → has d (listed q) ≡ true → eqb d c ≡ false → has d (listed p) ≡ true
     known d h n =
-        ⊎_elim (λ (i : has d (listed p) ≡ true). i) (λ (i : eqb c d ≡ true). absurd (eqb-false d c n (sym (eqb_true c d i)))) (or_cases (has d (listed p)) (eqb c d) (sym (a.clients d) ∙ h))
+        ⊎_elim (λ (i : has d (listed p) ≡ true). i) (λ (i : eqb c d ≡ true). absurd (eqb-false d c n (sym (eqb-true c d i)))) (or_cases (has d (listed p)) (eqb c d) (sym (a.clients d) ∙ h))
 
 pub moving_laws_lem : MovingLaws
 moving_laws_lem = record {
@@ -107,7 +107,7 @@ moving_laws_lem = record {
       through s m s' m' p q t t' t'' b (λ i j. on_screen p.screen (frame_in p c) i j || on_screen p.screen (frame_in q c) i j) _
       (moved_same_off p q c a.screen h x y a.layers (a.clients c ∙ h))
       (λ d i. ⊎_elim (λ (e : eqb d c ≡ true).
-      subst (Stays p q t') (sym (eqb_true d c e)) (stays_moved p q t' c h (a.clients c ∙ h) (ap (λ (g : Frame). g.w) own) (ap (λ (g : Frame). g.h) own) all))
+      subst (Stays p q t') (sym (eqb-true d c e)) (stays_moved p q t' c h (a.clients c ∙ h) (ap (λ (g : Frame). g.w) own) (ap (λ (g : Frame). g.h) own) all))
       (λ (e : eqb d c ≡ false). stays_still p q t' d (sym (a.clients d) ∙ i) (f d (eqb-false d c e))) (cases_Bool (eqb d c)))
       (stowed_join s p t' (on_screen p.screen (frame_in p c)) (on_screen p.screen (frame_in q c)) m m₁ m' st st')
       (re' ∙ ap (repainted m' q t' (on_screen q.screen (frame_in q c))) re ∙ repainted_join m' q t' (on_screen q.screen (frame_in p c)) (on_screen q.screen (frame_in q c)) s

@@ -3,7 +3,7 @@ use Rattle.std.proofs.Common.{◌≡◌, ℕ, ◌+◌, ◌*◌, ◌/◌, ◌%◌
 use native.Mathlib.Nat.{div-add-mod}
 use Rattle.std.proofs.lemmas.Int.{ints}
 use Rattle.std.proofs.lemmas.Bool.Decides.{nat_tests}
-use Rattle.std.proofs.lemmas.Bool.{and_parts, and_from, or_left, or_right, not-true, not_from_false, both_ways, eqb_true, eq-eqb, ltb_true, lt-ltb}
+use Rattle.std.proofs.lemmas.Bool.{and_parts, and_from, or_left, or_right, not-true, not_from_false, both_ways, eqb-true, eq-eqb, ltb-true, lt-ltb}
 use Rattle.raster.specs.Picture.{Picture, sizes}
 use Rattle.raster.specs.Blt.{holds, inside}
 use Rattle.raster.specs.declared.size.Size.{Size}
@@ -40,7 +40,7 @@ other_client : (c d : ℕ) (ds : List ℕ) → not (has c ds) ≡ true → has d
 other_client c d ds n h = go (eqb c d) refl
   where
     go : (b : Bool) → eqb c d ≡ b → b ≡ false
-    go true e = absurd (both_ways (has d ds) (ap (λ k. has k ds) (sym (eqb_true c d e)) ∙ not-true _ n) h)
+    go true e = absurd (both_ways (has d ds) (ap (λ k. has k ds) (sym (eqb-true c d e)) ∙ not-true _ n) h)
     go false e = refl
 
 tops_later : (c : ℕ) (ds : List ℕ) (fs : List Frame) (x y : ℤ) (l : Layer) → Tops ds fs x y l → Tops (c ∷ ds) fs x y l
@@ -84,7 +84,7 @@ is_top (c ∷ ds) fs x y d h k n = go (λ h n. is_top ds fs x y d h k n) (eqb c 
         → (b : Bool) → eqb c d ≡ b → (b || has d ds) ≡ true → covered (cond b (outlines ds fs) (above d (outlines ds fs))) x y ≡ false
         → topmost (outlines (c ∷ ds) fs) x y ≡ Some (outline d (get_or fs d no_frame))
     go ih true e h n =
-        let same : c ≡ d = eqb_true c d e in
+        let same : c ≡ d = eqb-true c d e in
         ap (λ o. or_else o (cond (covers (outline c (get_or fs c no_frame)) x y) (Some (outline c (get_or fs c no_frame))) None)) (none_topmost (outlines ds fs) x y n)
         ∙ ap (λ m. cond (covers (outline m (get_or fs m no_frame)) x y) (Some (outline m (get_or fs m no_frame))) None) same
         ∙ ap (λ b. cond b (Some (outline d (get_or fs d no_frame))) None) k
@@ -141,7 +141,7 @@ one_place t width c u v c' u' v' r r' k ex ey =
     let b = sixteen (s / n) (s' / n) (v % 16) (v' % 16) (below_16 v) (below_16 v') ey in
     let e : s ≡ s' = sym (div-add-mod s n) ∙ ap₂ (λ q r. n * q + r) b.0 a.0 ∙ div-add-mod s' n in
     let same = t.apart (patch_at c (u / 16) (v / 16)) (patch_at c' (u' / 16) (v' / 16))
-    (record { one = real_patch c u v r; other = real_patch c' u' v' r'; taken = ltb_true _ _ k; same = e }) in
+    (record { one = real_patch c u v r; other = real_patch c' u' v' r'; taken = ltb-true _ _ k; same = e }) in
     let q = same_patch c (u / 16) (v / 16) c' (u' / 16) (v' / 16) (omega arith) (omega arith) (omega arith) (omega arith) same in
     let q0 = q.0 in let q1 = q.1 in let q2 = q.2 in let a1 = a.1 in let b1 = b.1 in
     (q0, omega arith, omega arith)
@@ -162,7 +162,7 @@ place_within screen store t c u v e k =
     let s : ℕ = own_slot t c u v in
     let n : ℕ = store.width / 16 in
     let m : ℕ = store.height / 16 in
-    let h : s < slots_of (sizes store) screen.depth = rw e at (ltb_true s t.places k) in
+    let h : s < slots_of (sizes store) screen.depth = rw e at (ltb-true s t.places k) in
     let q = some_slot (ltb store.depth screen.depth) s (n * m) h in
     let q0 = q.0 in
     let some : 0 < n = some_across s n m q.1 in

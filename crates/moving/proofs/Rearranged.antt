@@ -1,6 +1,6 @@
 -- From one arrangement to another: after stowing and repainting every pixel is where its spot says, and the screen shows the layers.
 use Rattle.std.proofs.Common.{◌≡◌, ℕ, ◌+◌, ◌*◌, ◌/◌, ◌%◌, ◌^◌, ◌<◌, Bool, true, false, cond, ◌&&◌, ◌||◌, ◌⊎◌, List, pos, ◌+ℤ◌, nat_abs, is_some, Some, None, Option, sym, refl, ap, ◌∙◌, subst, ap₂, inl, inr, ⊎_elim, mod-eq_of_lt, arith}
-use Rattle.std.proofs.lemmas.Bool.{and_from, and_left, or_left, or_right, or_cases, not_from_false, both_ways, cond_true, cond_false, cases_Bool, lt-ltb}
+use Rattle.std.proofs.lemmas.Bool.{and_from, and_left, or_left, or_right, or_cases, not_from_false, both_ways, cond-true, cond-false, cases_Bool, lt-ltb}
 use Rattle.raster.specs.Picture.{Picture, sizes}
 use Rattle.raster.specs.Blt.{inside}
 use Rattle.raster.specs.Calls.{any_below}
@@ -51,11 +51,11 @@ unseen_hidden p d u v h hu hv s =
 module _ (screen store : Picture) (p : Plan) (t : Slots) (d u v : ℕ) where
   pub held_seen : seen p d u v ≡ true → held screen store p t d u v ≡ screen.at (place_x p d u) (place_y p d v)
   unfolding spot_of
-  held_seen s = ap (look screen store) (cond_true _ (screen_spot p d u v) (store_spot store.width t d u v) s)
+  held_seen s = ap (look screen store) (cond-true _ (screen_spot p d u v) (store_spot store.width t d u v) s)
 
   pub held_unseen : seen p d u v ≡ false → held screen store p t d u v ≡ store.at (store_x store.width t d u v) (store_y store.width t d u v) % 2 ^ screen.depth
   unfolding spot_of
-  held_unseen s = ap (look screen store) (cond_false _ (screen_spot p d u v) (store_spot store.width t d u v) s)
+  held_unseen s = ap (look screen store) (cond-false _ (screen_spot p d u v) (store_spot store.width t d u v) s)
 
 -- A pixel that shows at a place has its value there.
 pub was_there : (s m : Picture) (p : Plan) (t : Slots) (px : Pixels) → Holds s m p t px → (x y d u v : ℕ) → Shows p x y d u v → inside p.screen (pos x) (pos y) ≡ true → s.at x y ≡ px d u v
@@ -88,7 +88,7 @@ screen_shows s s' m m' p q t'' px px' holds size fit bare outside =
     place : (x y : ℕ) (b : Bool) → inside (sizes s) (pos x) (pos y) ≡ b → (o : Option Layer) → topmost (layers_in q) (pos x) (pos y) ≡ o
         → s'.at x y ≡ cond (inside (sizes s) (pos x) (pos y) && (covered (layers_with s.depth p px (listed p)) (pos x) (pos y) || covered (layers_with s.depth q px' (listed q)) (pos x) (pos y)))
         (shown (layers_with s.depth q px' (listed q)) (pos x) (pos y)) (s.at x y)
-    place x y false e o eo = outside x y e ∙ sym (cond_false _ _ (s.at x y) (and_left _ _ e))
+    place x y false e o eo = outside x y e ∙ sym (cond-false _ _ (s.at x y) (and_left _ _ e))
     place x y true e (Some l) eo =
         let u : ℕ = from_corner l.x x in
         let v : ℕ = from_corner l.y y in
@@ -97,7 +97,7 @@ screen_shows s s' m m' p q t'' px px' holds size fit bare outside =
         let on : seen q l.client u v ≡ true = shows_seen q x y l.client u v z (ap (λ n. inside n (pos x) (pos y)) fit ∙ e) in
         let c : covered (layers_with s.depth q px' (listed q)) (pos x) (pos y) ≡ true = covered_with s.depth q px' (listed q) (pos x) (pos y) ∙ topmost_tells (layers_in q) (pos x) (pos y) ∙ ap is_some eo in
         ap₂ s'.at (sym i.0) (sym i.1) ∙ sym (held_seen s' m' q t'' l.client u v on) ∙ holds l.client z.listed u v z.column z.row
-        ∙ sym (with_shown s.depth q px' x y l.client u v z) ∙ sym (cond_true _ _ (s.at x y) (and_from _ _ e (or_right _ _ c)))
+        ∙ sym (with_shown s.depth q px' x y l.client u v z) ∙ sym (cond-true _ _ (s.at x y) (and_from _ _ e (or_right _ _ c)))
     place x y true e None eo =
         let n : covered (layers_in q) (pos x) (pos y) ≡ false = topmost_tells (layers_in q) (pos x) (pos y) ∙ ap is_some eo in
         let c : covered (layers_with s.depth q px' (listed q)) (pos x) (pos y) ≡ false = covered_with s.depth q px' (listed q) (pos x) (pos y) ∙ n in
@@ -128,7 +128,7 @@ module _ (p q : Plan) (t t' t'' : Slots) (at : ℕ → ℕ → Bool) (px : Pixel
           let x : ℕ = place_x p d u in
           let y : ℕ = place_y p d v in
           let z = seen_shows p d u v h hu hv e in
-          let c = stowed.copied x y _ _ (w e) (shows_behind m.width p t' x y d u v z.shows ∙ cond_true _ (Kept (store_x m.width t' d u v) (store_y m.width t' d u v)) Alone k) in
+          let c = stowed.copied x y _ _ (w e) (shows_behind m.width p t' x y d u v z.shows ∙ cond-true _ (Kept (store_x m.width t' d u v) (store_y m.width t' d u v)) Alone k) in
           ap (λ n. n % 2 ^ s.depth) c ∙ mod-eq_of_lt (small x y) ∙ sym (held_seen s m p t d u v e) ∙ holds d h u v hu hv
 
       off : seen p d u v ≡ false → m'.at (store_x m.width t' d u v) (store_y m.width t' d u v) % 2 ^ s.depth ≡ px d u v
@@ -212,7 +212,7 @@ module _ (p q : Plan) (t t' t'' : Slots) (at : ℕ → ℕ → Bool) (px : Pixel
           let z = seen_shows q d u v h hu hv e in
           let on : inside p.screen (pos x) (pos y) ≡ true = ap (λ n. inside n (pos x) (pos y)) (sym work.same_screen) ∙ z.on in
           let z' = shown_by p x y d u v (frame_in q d) (sym (work.off x y on w) ∙ z.shows.top) z.shows.across z.shows.down in
-          painted_there x y ∙ cond_false _ _ (s.at x y) (and_left _ _ w) ∙ was_there s m p t px holds x y d u v z' on
+          painted_there x y ∙ cond-false _ _ (s.at x y) (and_left _ _ w) ∙ was_there s m p t px holds x y d u v z' on
 
       -- one that is obscured
       behind_others : seen q d u v ≡ false → held s' m' q t'' d u v ≡ px d u v
@@ -241,7 +241,7 @@ module _ (p q : Plan) (t t' t'' : Slots) (at : ℕ → ℕ → Bool) (px : Pixel
     rearranged_screen fit =
         screen_shows s s' m m' p q t'' px px rearranged rearranged_sizes (work.same_screen ∙ fit)
         (λ x y e n. bare x y e n (at x y) refl)
-        (λ x y e. painted_there x y ∙ cond_false _ _ (s.at x y) (and_left _ _ (never x y e (at x y) refl)))
+        (λ x y e. painted_there x y ∙ cond-false _ _ (s.at x y) (and_left _ _ (never x y e (at x y) refl)))
       where
         never : (x y : ℕ) → inside (sizes s) (pos x) (pos y) ≡ false → (b : Bool) → at x y ≡ b → b ≡ false
         never x y e true w = absurd (both_ways (inside p.screen (pos x) (pos y)) (ap (λ z. inside z (pos x) (pos y)) fit ∙ e) (work.on x y w))
@@ -252,8 +252,8 @@ module _ (p q : Plan) (t t' t'' : Slots) (at : ℕ → ℕ → Bool) (px : Pixel
         bare x y e n true w =
             let k : behind m.width q t' x y ≡ Bare = bare_behind m.width q t' x y n in
             let c : covered (layers_in p) (pos x) (pos y) ≡ true = ⊎_elim (λ (a : covered (layers_in p) (pos x) (pos y) ≡ true). a) (λ a. absurd (both_ways (covered (layers_in q) (pos x) (pos y)) n a)) (or_cases _ _ (work.under x y w)) in
-            painted_there x y ∙ ap₂ (λ b c. cond (b && changes c) (taken s.depth m' c) (s.at x y)) w k ∙ sym (cond_true _ 0 (s.at x y) c)
+            painted_there x y ∙ ap₂ (λ b c. cond (b && changes c) (taken s.depth m' c) (s.at x y)) w k ∙ sym (cond-true _ 0 (s.at x y) c)
         bare x y e n false w =
             let same = work.off x y (ap (λ z. inside z (pos x) (pos y)) fit ∙ e) w in
             let c : covered (layers_in p) (pos x) (pos y) ≡ false = topmost_tells (layers_in p) (pos x) (pos y) ∙ ap is_some (sym same) ∙ sym (topmost_tells (layers_in q) (pos x) (pos y)) ∙ n in
-            painted_there x y ∙ cond_false _ _ (s.at x y) (and_left _ _ w) ∙ sym (cond_false _ 0 (s.at x y) c)
+            painted_there x y ∙ cond-false _ _ (s.at x y) (and_left _ _ w) ∙ sym (cond-false _ 0 (s.at x y) c)

@@ -1,6 +1,6 @@
 -- Stowing and repainting some places and then others.
 use Rattle.std.proofs.Common.{◌≡◌, ℕ, zero, suc, ◌*◌, ◌/◌, ◌^◌, ◌<◌, ◌≤◌, Bool, true, false, cond, ◌&&◌, ◌||◌, eqb, ltb, Some, None, Option, sym, refl, ap, ◌∙◌, subst, ap₂, ⊎_elim, mod-lt, arith, pow_mono}
-use Rattle.std.proofs.lemmas.Bool.{and_parts, and_from, and_left, or_cases, or_left, or_right, both_ways, eqb_true, eq-eqb, cond_true, cond_false}
+use Rattle.std.proofs.lemmas.Bool.{and_parts, and_from, and_left, or_cases, or_left, or_right, both_ways, eqb-true, eq-eqb, cond-true, cond-false}
 use Rattle.std.proofs.lemmas.Nat.{pow_pos}
 use Rattle.raster.specs.Picture.{Picture, sizes, painted, with_pixel}
 use Rattle.raster.proofs.Paints.{painted_at, painted_sizes, painted_same, painted_none, painted_more}
@@ -18,7 +18,7 @@ abbrev pub Small : Picture → Type 0
 Small s = (x y : ℕ) → s.at x y < 2 ^ s.depth
 
 pub is_just : (x y a b : ℕ) → just x y a b ≡ true → (a ≡ x) × (b ≡ y)
-is_just x y a b e = let q = and_parts (eqb a x) (eqb b y) e in (eqb_true a x q.0, eqb_true b y q.1)
+is_just x y a b e = let q = and_parts (eqb a x) (eqb b y) e in (eqb-true a x q.0, eqb-true b y q.1)
 
 module _ (s : Picture) (p : Plan) (t : Slots) where
   pub stowed_none : (at : ℕ → ℕ → Bool) (m : Picture) → ((x y : ℕ) → at x y ≡ false) → Stowed s p t at m m
@@ -48,8 +48,8 @@ module _ (s : Picture) (p : Plan) (t : Slots) where
         let ea : a' ≡ a = cc in
         let eb : b' ≡ b = cc in
         ap (λ (n : Picture). n.at a' b') w ∙ painted_at m (just a b) (λ _ _. s.at x y) a' b'
-        ∙ cond_true (just a b a' b') _ _ (and_from _ _ (eq-eqb a' a ea) (eq-eqb b' b eb)) ∙ ap₂ s.at (sym q.0) (sym q.1);
-    others = λ a' b' h. ap (λ (n : Picture). n.at a' b') w ∙ painted_at m (just a b) (λ _ _. s.at x y) a' b' ∙ cond_false (just a b a' b') _ _ (other a' b' h (just a b a' b') refl);
+        ∙ cond-true (just a b a' b') _ _ (and_from _ _ (eq-eqb a' a ea) (eq-eqb b' b eb)) ∙ ap₂ s.at (sym q.0) (sym q.1);
+    others = λ a' b' h. ap (λ (n : Picture). n.at a' b') w ∙ painted_at m (just a b) (λ _ _. s.at x y) a' b' ∙ cond-false (just a b a' b') _ _ (other a' b' h (just a b a' b') refl);
   }
     where
       other : (a' b' : ℕ) → ((x' y' : ℕ) → just x y x' y' ≡ true → behind m.width p t x' y' ≡ Kept a' b' → ⊥) → (c : Bool) → just a b a' b' ≡ c → c ≡ false

@@ -2,7 +2,7 @@
 use Rattle.std.specs.Prelude.{◌≡◌, ℕ, ◌^◌, ◌<◌, ◌≤◌, true, false, ◌&&◌, ◌⊎◌, nat_lt, refl}
 use Rattle.std.proofs.Common.{sym, subst, ⊎_elim, arith, mod-lt}
 use Rattle.std.proofs.lemmas.Nat.{pow_pos}
-use Rattle.std.proofs.lemmas.Bool.{cases_Bool, cond_false, and_left, and_right, le-ltb}
+use Rattle.std.proofs.lemmas.Bool.{cases_Bool, cond-false, and_left, and_right, le-ltb}
 use Rattle.raster.specs.Picture.{Picture, Sound}
 use Rattle.raster.proofs.Paints.{cond_less}
 use Rattle.paper.specs.Layers.{is_open, pane, blank}
@@ -30,7 +30,7 @@ module _ (screen store : Picture) (sound : Sound screen) where
         high = omega (arith, p.short c);
         deep = sound.deep;
         values = λ x y. cond_less (nat_lt x (frame_in p c).w && nat_lt y (frame_in p c).h) (held screen store p t c x y) (2 ^ screen.depth) (look_below (spot_of store.width p t c x y));
-        outside = λ x y o. cond_false (nat_lt x (frame_in p c).w && nat_lt y (frame_in p c).h) (held screen store p t c x y) 0 (beyond x y o);
+        outside = λ x y o. cond-false (nat_lt x (frame_in p c).w && nat_lt y (frame_in p c).h) (held screen store p t c x y) 0 (beyond x y o);
       }
     where
       beyond : (x y : ℕ) → ((frame_in p c).w ≤ x) ⊎ ((frame_in p c).h ≤ y) → (nat_lt x (frame_in p c).w && nat_lt y (frame_in p c).h) ≡ false

@@ -1,6 +1,6 @@
 -- The laws of a desk hold.
 use Rattle.std.proofs.Common.{◌≡◌, ℕ, ◌+◌, ◌<◌, ◌≤◌, Bool, true, false, cond, not, eqb, List, [], ◌∷◌, ◌++◌, length, ℤ, is_some, Some, None, Ok, Err, Option, sym, refl, ap, ◌∙◌, subst, ap₂, arith}
-use Rattle.std.proofs.lemmas.Bool.{eq-eqb, eqb_true, lt-ltb, ltb-false}
+use Rattle.std.proofs.lemmas.Bool.{eq-eqb, eqb-true, lt-ltb, ltb-false}
 use Rattle.raster.specs.Picture.{Picture, sizes}
 use Rattle.raster.specs.Blt.{Transfer, Source, blt}
 use Rattle.raster.specs.Calls.{refuse_if, first_fault}
@@ -81,7 +81,7 @@ known_after d call k c h = go (eqb (client_of call) c) refl
   where
     go : (b : Bool) → eqb (client_of call) c ≡ b → is_open c (after d call) ≡ false
     go true e =
-        let same : client_of call ≡ c = eqb_true (client_of call) c e in
+        let same : client_of call ≡ c = eqb-true (client_of call) c e in
         ap (is_open c) (above_seven d call (lt-ltb 7 (client_of call) (omega arith))) ∙ k c h
     go false e = ap is_some (other_stays c d call e) ∙ k c h
 
@@ -95,7 +95,7 @@ single_open d c l e n s k = rw (layers-++ k d.layers (l ∷ [])) (go (eqb k l.cl
   where
     go : (t : Bool) → eqb k l.client ≡ t → layers_of k d.layers + length (cond t (l ∷ []) []) ≤ 1
     go true q =
-        let same : c ≡ k = sym (eqb_true k l.client q ∙ e) in
+        let same : c ≡ k = sym (eqb-true k l.client q ∙ e) in
         let zero_of : layers_of k d.layers ≡ 0 = subst (λ a. layers_of a d.layers ≡ 0) same (ap length (none_only c d.layers n)) in
         omega arith
     go false q = omega (arith, s k)

@@ -1,6 +1,6 @@
 -- What the operations on a list of layers do to one client's pixels.
 use Rattle.std.proofs.Common.{◌≡◌, ℕ, Bool, true, false, cond, not, eqb, List, [], ◌∷◌, ◌++◌, ℤ, is_some, Some, None, Option, sym, refl, ap, ◌∙◌, ap₂, arith}
-use Rattle.std.proofs.lemmas.Bool.{eqb_true}
+use Rattle.std.proofs.lemmas.Bool.{eqb-true}
 use Rattle.std.proofs.lemmas.Bool.Decides.{nat_tests}
 use Rattle.raster.specs.Picture.{Picture}
 use Rattle.paper.specs.Layers.{Layer, or_else, pixels_of, keep, only, without, alter, with_pixels, at_corner}
@@ -34,8 +34,8 @@ pixels_keep c t (l ∷ ls) = go (pixels_keep c t ls) (eqb l.client c) refl (t l.
 
     go : pixels_of c (keep t ls) ≡ cond (t c) (pixels_of c ls) None → (q : Bool) → eqb l.client c ≡ q → (a : Bool) → t l.client ≡ a
         → pixels_of c (cond a (l ∷ keep t ls) (keep t ls)) ≡ cond (t c) (cond q (Some l.pixels) (pixels_of c ls)) None
-    go ih true q true e = ap (λ b. cond b (Some l.pixels) (pixels_of c (keep t ls))) q ∙ own true (t c) (sym e ∙ ap t (eqb_true l.client c q)) ih
-    go ih true q false e = own false (t c) (sym e ∙ ap t (eqb_true l.client c q)) ih
+    go ih true q true e = ap (λ b. cond b (Some l.pixels) (pixels_of c (keep t ls))) q ∙ own true (t c) (sym e ∙ ap t (eqb-true l.client c q)) ih
+    go ih true q false e = own false (t c) (sym e ∙ ap t (eqb-true l.client c q)) ih
     go ih false q true e = ap (λ b. cond b (Some l.pixels) (pixels_of c (keep t ls))) q ∙ ih
     go ih false q false e = ih
 

@@ -1,5 +1,5 @@
 -- Laws of the order of layers: raise, lower, move, open and close, and how many layers a client has.
-use Rattle.std.proofs.Common.{◌≡◌, ℕ, ◌+◌, Bool, true, false, cond, not, ◌&&◌, eqb, List, [], ◌∷◌, ◌++◌, length, ℤ, Some, None, Option, sym, refl, ap, ◌∙◌, ap₂, append-nil, arith, length_append}
+use Rattle.std.proofs.Common.{◌≡◌, ℕ, ◌+◌, Bool, true, false, cond, not, ◌&&◌, eqb, List, [], ◌∷◌, ◌++◌, length, ℤ, Some, None, Option, sym, refl, ap, ◌∙◌, ap₂, append-nil, arith, length-append}
 use Rattle.std.proofs.lemmas.Bool.Decides.{nat_tests}
 use Rattle.paper.specs.Layers.{Layer, pixels_of, keep, only, without, alter, at_corner}
 use Rattle.paper.specs.Laws.{corner_of}
@@ -115,7 +115,7 @@ abbrev pub layers_of : ℕ → List Layer → ℕ
 layers_of c ls = length (only c ls)
 
 pub layers-++ : (c : ℕ) (xs ys : List Layer) → layers_of c (xs ++ ys) ≡ layers_of c xs + layers_of c ys
-layers-++ c xs ys = ap length (keep-++ _ xs ys) ∙ length_append (only c xs) (only c ys)
+layers-++ c xs ys = ap length (keep-++ _ xs ys) ∙ length-append (only c xs) (only c ys)
 
 cond_length : (t : Bool) (l : Layer) (ls : List Layer) → length (cond t (l ∷ ls) ls) ≡ cond t 1 0 + length ls
 cond_length true l ls = omega arith

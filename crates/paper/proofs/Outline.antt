@@ -1,7 +1,7 @@
 -- What is hidden depends on the outlines of the layers alone, and never passes the number of slots.
 use Rattle.std.proofs.Common.{◌≡◌, ℕ, zero, suc, ◌+◌, ◌*◌, ◌≤◌, Bool, true, false, cond, not, ◌&&◌, ◌||◌, eqb, ltb, List, [], ◌∷◌, ℤ, pos, ◌+ℤ◌, Some, sym, refl, ap, ◌∙◌, ap₂, ⊎_elim, arith}
 use mathlib.Core.Path.{fun_ext}
-use Rattle.std.proofs.lemmas.Bool.{eqb_true, or_left, or_right, or_cases, false≢true, true≢false}
+use Rattle.std.proofs.lemmas.Bool.{eqb-true, or_left, or_right, or_cases, false≢true, true≢false}
 use Rattle.raster.specs.Picture.{Picture, sizes}
 use Rattle.raster.specs.Rules.{total}
 use Rattle.raster.specs.Blt.{in_rectangle, inside}
@@ -148,7 +148,7 @@ module _ (keeps : ℕ → Bool) where
     where
       go : hidden_in screen (keep keeps ls) c i j ≡ false → (t : Bool) → keeps l.client ≡ t → (b : Bool) → eqb l.client c ≡ b
           → hidden_in screen (cond t (l ∷ keep keeps ls) (keep keeps ls)) c i j ≡ false
-      go ih true e true q = absurd (true≢false (sym e ∙ ap keeps (eqb_true l.client c q) ∙ k))
+      go ih true e true q = absurd (true≢false (sym e ∙ ap keeps (eqb-true l.client c q) ∙ k))
       go ih true e false q = rw q ih
       go ih false e b q = ih
 
@@ -160,7 +160,7 @@ module _ (keeps : ℕ → Bool) where
           → Implies (hidden_in screen (cond t (l ∷ keep keeps ls) (keep keeps ls)) c i j) (cond b (hidden screen ls l i j) (hidden_in screen ls c i j))
       go ih true e true q = rw q (hidden_mono screen ls l i j)
       go ih true e false q = rw q ih
-      go ih false e true q = λ h. absurd (true≢false (sym h ∙ none_hidden screen ls c i j (ap keeps (sym (eqb_true l.client c q)) ∙ e)))
+      go ih false e true q = λ h. absurd (true≢false (sym h ∙ none_hidden screen ls c i j (ap keeps (sym (eqb-true l.client c q)) ∙ e)))
       go ih false e false q = ih
 
   count_keep : (f g : ℕ → ℕ → ℕ → Bool) → ((c i j : ℕ) → Implies (f c i j) (g c i j)) → (ls : List Layer) → count_patches f (keep keeps ls) ≤ count_patches g ls

@@ -1,6 +1,6 @@
 -- The host's pane: no call to the outer desk alters it, and what is painted on it stands.
 use Rattle.std.proofs.Common.{◌≡◌, ℕ, Bool, true, false, cond, ◌&&◌, eqb, ltb, leb, List, [], ◌∷◌, Some, None, Option, sym, refl, ap, ◌∙◌, subst, ap₂, true≢false, arith}
-use Rattle.std.proofs.lemmas.Bool.{eqb_true, and_parts}
+use Rattle.std.proofs.lemmas.Bool.{eqb-true, and_parts}
 use Rattle.std.proofs.lemmas.Bool.Decides.{nat_tests}
 use Rattle.raster.specs.Picture.{Picture}
 use Rattle.raster.specs.Calls.{first_fault}
@@ -18,7 +18,7 @@ use Rattle.paper.proofs.Screen.{empty_screen}
 -- a call refused for the host names the host
 pub names_host : (host : ℕ) (call : Call) → refused_for_host host call ≡ true → client_of call ≡ host
 names_host host call h =
-    eqb_true (client_of call) host
+    eqb-true (client_of call) host
     (and_parts (eqb (client_of call) host) (draws call) (and_parts (leb (client_of call) 7) (eqb (client_of call) host && draws call) h).1).0
 
 pub outer_size : (host : ℕ) (d : Desk) (call : Call) → (outer_after host d call).size ≡ d.size
@@ -70,7 +70,7 @@ host_stays host d call = go (refused_for_host host call) refl
     own_case : (b : Bool) → draws call ≡ b → refused_for_host host call ≡ false → eqb (client_of call) host ≡ true → pixels_of host (after d call).layers ≡ pixels_of host d.layers
     own_case true f n e = ap (λ p. pixels_of host p.layers) (above_seven d call (above_if (client_of call) host (draws call) n e f))
     own_case false f n e =
-        let same : client_of call ≡ host = eqb_true (client_of call) host e in
+        let same : client_of call ≡ host = eqb-true (client_of call) host e in
         subst (λ k. pixels_of k (after d call).layers ≡ pixels_of k d.layers) same (looks_only d call f)
 
     by_client : (b : Bool) → eqb (client_of call) host ≡ b → refused_for_host host call ≡ false → pixels_of host (after d call).layers ≡ pixels_of host d.layers

@@ -3,7 +3,7 @@
 use Rattle.std.proofs.Common.{◌≡◌, ℕ, ◌<◌, Bool, true, false, ◌&&◌, ℤ, pos, negsuc, nat_abs, sym, refl, ap, ◌∙◌, arith}
 use Rattle.std.proofs.lemmas.Int.{ints}
 use Rattle.std.proofs.lemmas.Bool.Decides.{nat_tests}
-use Rattle.std.proofs.lemmas.Bool.{and_parts, and_left, and_right, cond_false}
+use Rattle.std.proofs.lemmas.Bool.{and_parts, and_left, and_right, cond-false}
 use Rattle.raster.specs.Rules.{combined}
 use Rattle.raster.specs.Picture.{Picture, sizes, painted}
 use Rattle.raster.specs.Blt.{Transfer, Source, from_picture, holds, in_rectangle, inside, behind, concerned, count, blt}
@@ -30,7 +30,7 @@ inside_below s x y e =
 
 pub painted_clean : (p : Picture) (t : ℕ → ℕ → Bool) (v : ℕ → ℕ → ℕ) → ((x y : ℕ) → inside (sizes p) (pos x) (pos y) ≡ false → t x y ≡ false) → Clean p → Clean (painted p t v)
 unfolding painted
-painted_clean p t v h k x y e = cond_false (t x y) (v x y) (p.at x y) (h x y e) ∙ k x y e
+painted_clean p t v h k x y e = cond-false (t x y) (v x y) (p.at x y) (h x y e) ∙ k x y e
 
 pub blt_clean : (t : Transfer) (s : Source) (p : Picture) → Clean p → Clean (blt t s p)
 unfolding blt concerned

@@ -1,6 +1,6 @@
 -- Runs of one desk keep apart.
 use Rattle.std.proofs.Common.{◌≡◌, ℕ, Bool, true, false, cond, eqb, List, [], ◌∷◌, ◌++◌, None, Option, sym, refl, ap, ◌∙◌, subst, ap₂, append-nil}
-use Rattle.std.proofs.lemmas.Bool.{eqb_true}
+use Rattle.std.proofs.lemmas.Bool.{eqb-true}
 use Rattle.raster.specs.Picture.{Picture, sizes}
 use Rattle.raster.specs.declared.size.Size.{Size}
 use Rattle.paper.specs.Layers.{Desk, pixels_of, screen_of}
@@ -39,7 +39,7 @@ call_then c d call got s steps a l t = go (eqb (client_of call) c) refl
   where
     go : (b : Bool) → eqb (client_of call) c ≡ b → Trace c d.size.depth (pixels_of c d.layers) (record { event = called call got; stands = s } ∷ steps)
     go true e =
-        let same : client_of call ≡ c = eqb_true (client_of call) c e in
+        let same : client_of call ≡ c = eqb-true (client_of call) c e in
         own (record {
           call = call;
           got = got;

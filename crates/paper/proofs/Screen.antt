@@ -2,7 +2,7 @@
 use Rattle.std.proofs.Common.{◌≡◌, ℕ, ◌<◌, Bool, true, false, cond, not, ◌&&◌, ◌||◌, List, [], ◌∷◌, ◌++◌, ℤ, pos, ◌+ℤ◌, ◌-ℤ◌, nat_abs, is_some, Some, None, Option, sym, refl, ap, ◌∙◌, ap₂, arith}
 use Rattle.std.proofs.lemmas.Int.{ints}
 use Rattle.std.proofs.lemmas.Bool.Decides.{nat_tests}
-use Rattle.std.proofs.lemmas.Bool.{and_left, and_right, and_from, and_parts, or_left, or_right, or_from, not-true, lt-ltb, cond_true, cond_false}
+use Rattle.std.proofs.lemmas.Bool.{and_left, and_right, and_from, and_parts, or_left, or_right, or_from, not-true, lt-ltb, cond-true, cond-false}
 use Rattle.raster.specs.Picture.{Picture, sizes, painted}
 use Rattle.raster.specs.Blt.{inside}
 use Rattle.raster.specs.declared.size.Size.{Size}
@@ -62,20 +62,20 @@ screen_sizes s d e = painted_sizes s _ _
 module _ (screen : Picture) (before after : Desk) (x y : ℕ) (on : inside (sizes screen) (pos x) (pos y) ≡ true) where
   pub covered_shows : covered after.layers (pos x) (pos y) ≡ true → (screen_after screen before after).at x y ≡ shown after.layers (pos x) (pos y)
   unfolding screen_after painted
-  covered_shows c = cond_true _ _ _ (and_from _ _ on (or_right (covered before.layers (pos x) (pos y)) _ c))
+  covered_shows c = cond-true _ _ _ (and_from _ _ on (or_right (covered before.layers (pos x) (pos y)) _ c))
 
   pub uncovered_clears : covered before.layers (pos x) (pos y) ≡ true → covered after.layers (pos x) (pos y) ≡ false → (screen_after screen before after).at x y ≡ 0
   unfolding screen_after painted
-  uncovered_clears b n = cond_true _ _ _ (and_from _ _ on (or_left _ (covered after.layers (pos x) (pos y)) b)) ∙ none_shown after.layers (pos x) (pos y) n
+  uncovered_clears b n = cond-true _ _ _ (and_from _ _ on (or_left _ (covered after.layers (pos x) (pos y)) b)) ∙ none_shown after.layers (pos x) (pos y) n
 
 pub untouched_stays : (screen : Picture) (before after : Desk) (x y : ℕ) → covered before.layers (pos x) (pos y) ≡ false → covered after.layers (pos x) (pos y) ≡ false
     → (screen_after screen before after).at x y ≡ screen.at x y
 unfolding screen_after painted
-untouched_stays screen before after x y b n = cond_false _ _ _ (and_right (inside (sizes screen) (pos x) (pos y)) _ (or_from _ _ b n))
+untouched_stays screen before after x y b n = cond-false _ _ _ (and_right (inside (sizes screen) (pos x) (pos y)) _ (or_from _ _ b n))
 
 pub outside_stays : (screen : Picture) (before after : Desk) (x y : ℕ) → inside (sizes screen) (pos x) (pos y) ≡ false → (screen_after screen before after).at x y ≡ screen.at x y
 unfolding screen_after painted
-outside_stays screen before after x y off = cond_false _ _ _ (and_left _ _ off)
+outside_stays screen before after x y off = cond-false _ _ _ (and_left _ _ off)
 
 -- one place, on the screen or not, covered before or not, and after or not
 one_place : (on before after : Bool) (was shows : ℕ) → (before ≡ false → was ≡ 0) → (after ≡ false → shows ≡ 0)
@@ -130,7 +130,7 @@ empty_screen s d e w = painted_none s _ _ (λ x y. and_left (inside (sizes s) (p
 two_calls : (on d e f : Bool) (was se sf : ℕ) → (e ≡ true → (d || f) ≡ true) → (e ≡ false → se ≡ 0) → (f ≡ false → sf ≡ 0)
     → cond (on && (e || f)) sf (cond (on && (d || e)) se was) ≡ cond (on && (d || f)) sf was
 two_calls false d e f was se sf h p q = refl
-two_calls true d true f was se sf h p q = sym (cond_true (d || f) sf was (h refl))
+two_calls true d true f was se sf h p q = sym (cond-true (d || f) sf was (h refl))
 two_calls true true false true was se sf h p q = refl
 two_calls true true false false was se sf h p q = p refl ∙ sym (q refl)
 two_calls true false false f was se sf h p q = refl

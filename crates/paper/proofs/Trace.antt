@@ -1,5 +1,5 @@
 -- A client's pixels and answers, told from its own calls and how its opens fared alone.
-use Rattle.std.proofs.Common.{◌≡◌, ℕ, zero, suc, ◌+◌, Bool, true, false, cond, eqb, List, [], ◌∷◌, ◌++◌, length, take, drop, Ok, Option, sym, refl, ap, ◌∙◌, subst, ap₂, subst₂, append_assoc, add_assoc, zero-add, arith, length_append, take-append-drop}
+use Rattle.std.proofs.Common.{◌≡◌, ℕ, zero, suc, ◌+◌, Bool, true, false, cond, eqb, List, [], ◌∷◌, ◌++◌, length, take, drop, Ok, Option, sym, refl, ap, ◌∙◌, subst, ap₂, subst₂, append_assoc, add_assoc, zero-add, arith, length-append, take-append-drop}
 use Rattle.raster.specs.Picture.{Picture, sizes}
 use Rattle.raster.specs.Blt.{Transfer}
 use Rattle.raster.specs.Calls.{unless, if_refused}
@@ -150,7 +150,7 @@ opens_in-++ (k ∷ ks) ls = ap (λ n. length (if_open k (Ok 0)) + n) (opens_in-+
 opens_counted : (c : ℕ) (steps : List Step) → length (opens_of c steps) ≡ opens_in (calls_of c steps)
 opens_counted c [] = refl
 opens_counted c (m ∷ steps) =
-    length_append (own_open c m.event) (opens_of c steps)
+    length-append (own_open c m.event) (opens_of c steps)
     ∙ ap₂ (λ a b. a + b) (opens_in_event c m.event) (opens_counted c steps)
     ∙ sym (opens_in-++ (own_call c m.event) (calls_of c steps))
 

@@ -1,7 +1,7 @@
 -- Orders of clients: sifted by a test, with a client last or first, and how long they are.
 use Rattle.std.proofs.Common.{◌≡◌, ℕ, zero, suc, ◌+◌, ◌<◌, ◌≤◌, Bool, true, false, cond, not, ◌&&◌, ◌||◌, eqb, ltb, List, [], ◌∷◌, ◌++◌, length, get_or, take, set, ℤ, filter, sym, refl, ap, ◌∙◌, ap₂, ⊎_elim, arith}
 use Rattle.std.proofs.lemmas.List.{get_or-set_same, get_or-set_other, append-nil}
-use Rattle.std.proofs.lemmas.Bool.{and_parts, and_from, or_parts, or_left, or_right, not-true, eqb_true, ne_eqb, eqb-false, true≢false, cases_eq}
+use Rattle.std.proofs.lemmas.Bool.{and_parts, and_from, or_parts, or_left, or_right, not-true, eqb-true, ne_eqb, eqb-false, true≢false, cases_eq}
 use Rattle.std.proofs.lemmas.Bool.Decides.{nat_tests}
 use Rattle.paper.specs.Layers.{Layer, keep, only, without, alter, at_corner}
 use Rattle.plan.specs.declared.frame.Frame.{Frame}
@@ -43,8 +43,8 @@ has_kept t d (c ∷ cs) = go (has_kept t d cs) (eqb c d) refl (t c) refl
   where
     go : has d (filter t cs) ≡ (has d cs && t d) → (q : Bool) → eqb c d ≡ q → (b : Bool) → t c ≡ b
         → has d (cond b (c ∷ filter t cs) (filter t cs)) ≡ ((q || has d cs) && t d)
-    go ih true e true k = ap (λ x. x || has d (filter t cs)) e ∙ sym k ∙ ap t (eqb_true c d e)
-    go ih true e false k = ih ∙ no (has d cs) (t d) (sym (ap t (eqb_true c d e)) ∙ k)
+    go ih true e true k = ap (λ x. x || has d (filter t cs)) e ∙ sym k ∙ ap t (eqb-true c d e)
+    go ih true e false k = ih ∙ no (has d cs) (t d) (sym (ap t (eqb-true c d e)) ∙ k)
       where
         no : (a b : Bool) → b ≡ false → (a && b) ≡ b
         no true b h = refl
@@ -57,7 +57,7 @@ has_low n d [] low h = absurd (true≢false (sym h))
 has_low n d (c ∷ cs) low h = go (has_low n d cs (λ k. low (suc k))) (eqb c d) refl h
   where
     go : (has d cs ≡ true → d < n) → (b : Bool) → eqb c d ≡ b → (b || has d cs) ≡ true → d < n
-    go ih true e h = let q = eqb_true c d e in omega (arith, low 0)
+    go ih true e h = let q = eqb-true c d e in omega (arith, low 0)
     go ih false e h = ih h
 
 -- ── No client twice ──
@@ -114,7 +114,7 @@ own_one c (d ∷ cs) h = let q = and_parts (not (has d cs)) (distinct cs) h in g
   where
     go : not (has d cs) ≡ true → filter (λ k. eqb c k) cs ≡ cond (has c cs) (c ∷ []) [] → (b : Bool) → eqb d c ≡ b → filter (λ k. eqb c k) (d ∷ cs) ≡ cond (b || has c cs) (c ∷ []) []
     go k ih true e =
-        let same = eqb_true d c e in
+        let same = eqb-true d c e in
         ap (λ b. cond b (d ∷ filter (λ k. eqb c k) cs) (filter (λ k. eqb c k) cs)) (flip c d ∙ e)
         ∙ ap₂ (λ x ds. x ∷ ds) same (none_own c cs (ap (λ x. has x cs) (sym same) ∙ not-true _ k))
     go k ih false e = ap (λ b. cond b (d ∷ filter (λ k. eqb c k) cs) (filter (λ k. eqb c k) cs)) (flip c d ∙ e) ∙ ih
@@ -153,7 +153,7 @@ pub has_raised : (c d : ℕ) (cs : List ℕ) → has c cs ≡ true → has d (ot
 has_raised c d cs h = has-++ d (others c cs) (c ∷ []) ∙ ap (λ b. b || (eqb c d || false)) (others_have c d cs) ∙ go (eqb c d) refl
   where
     go : (b : Bool) → eqb c d ≡ b → ((has d cs && not b) || (b || false)) ≡ has d cs
-    go true e = all (has d cs) ∙ sym (sym (ap (λ x. has x cs) (eqb_true c d e)) ∙ h)
+    go true e = all (has d cs) ∙ sym (sym (ap (λ x. has x cs) (eqb-true c d e)) ∙ h)
       where
         all : (a : Bool) → ((a && false) || true) ≡ true
         all true = refl
@@ -168,7 +168,7 @@ pub has_lowered : (c d : ℕ) (cs : List ℕ) → has c cs ≡ true → has d (c
 has_lowered c d cs h = ap (λ b. eqb c d || b) (others_have c d cs) ∙ go (eqb c d) refl
   where
     go : (b : Bool) → eqb c d ≡ b → (b || (has d cs && not b)) ≡ has d cs
-    go true e = sym (sym (ap (λ x. has x cs) (eqb_true c d e)) ∙ h)
+    go true e = sym (sym (ap (λ x. has x cs) (eqb-true c d e)) ∙ h)
     go false e = rest (has d cs)
       where
         rest : (a : Bool) → (a && true) ≡ a
@@ -182,7 +182,7 @@ length_others c [] h = omega arith
 length_others c (d ∷ cs) h = let q = and_parts (not (has d cs)) (distinct cs) h in go q.0 (length_others c cs q.1) (eqb c d) refl
   where
     go : not (has d cs) ≡ true → length cs ≤ suc (length (others c cs)) → (b : Bool) → eqb c d ≡ b → suc (length cs) ≤ suc (length (cond (not b) (d ∷ others c cs) (others c cs)))
-    go k ih true e = let q = ap length (others_all c cs (ap (λ x. has x cs) (eqb_true c d e) ∙ not-true _ k)) in omega arith
+    go k ih true e = let q = ap length (others_all c cs (ap (λ x. has x cs) (eqb-true c d e) ∙ not-true _ k)) in omega arith
     go k ih false e = omega arith
 
 pub others_fewer : (c : ℕ) (cs : List ℕ) → has c cs ≡ true → suc (length (others c cs)) ≤ length cs
@@ -242,7 +242,7 @@ outlines_moved c x y (d ∷ cs) fs h l = let q = and_parts (not (has d cs)) (dis
     go : not (has d cs) ≡ true → outlines cs gs ≡ alter c (at_corner x y) (outlines cs fs) → (b : Bool) → eqb d c ≡ b
         → outlines (d ∷ cs) gs ≡ cond b (at_corner x y (outline d (get_or fs d no_frame)) ∷ outlines cs fs) (outline d (get_or fs d no_frame) ∷ alter c (at_corner x y) (outlines cs fs))
     go k ih true e =
-        let same = eqb_true d c e in
+        let same = eqb-true d c e in
         let at : get_or gs d no_frame ≡ cornered x y (get_or fs d no_frame) =
         ap (λ i. get_or gs i no_frame) same ∙ get_or-set_same fs c _ no_frame l ∙ ap (λ i. cornered x y (get_or fs i no_frame)) (sym same) in
         ap₂ (λ f ls. outline d f ∷ ls) at (outlines_set c cs fs _ (ap (λ i. has i cs) (sym same) ∙ not-true _ k))

@@ -2,7 +2,7 @@
 use Rattle.std.proofs.Common.{◌≡◌, ℕ, zero, suc, ◌+◌, ◌-◌, ◌*◌, ◌<◌, ◌≤◌, min, Bool, true, false, cond, not, ◌&&◌, ◌||◌, eqb, ltb, ◌⊎◌, List, [], ◌∷◌, get_or, ℤ, pos, ◌+ℤ◌, ◌-ℤ◌, nat_abs, sym, refl, ap, ◌∙◌, ap₂, inl, inr, ⊎_elim, arith}
 use lib.Signed.{le_z, lt_z}
 use Rattle.std.proofs.lemmas.Int.{ints}
-use Rattle.std.proofs.lemmas.Bool.{and_parts, and_from, and_cases, and_left, and_right, le-ltb, or_left, or_right, or_cases, or_parts, eqb_true, not-true, not_from_false, not_from_true, cases_Bool, cases_lt, lt-ltb, ltb_true, false≢true, true≢false}
+use Rattle.std.proofs.lemmas.Bool.{and_parts, and_from, and_cases, and_left, and_right, le-ltb, or_left, or_right, or_cases, or_parts, eqb-true, not-true, not_from_false, not_from_true, cases_Bool, cases_lt, lt-ltb, ltb-true, false≢true, true≢false}
 use Rattle.std.proofs.lemmas.Bool.Decides.{nat_tests}
 use Rattle.raster.specs.Blt.{holds, in_rectangle, inside}
 use Rattle.raster.specs.Calls.{any_below}
@@ -140,8 +140,8 @@ module _ (f : Frame) (u v : ℕ) where
     area_lost e =
         let q = and_parts (ltb u f.w && ltb v f.h) _ e in
         let r = and_parts (ltb u f.w) (ltb v f.h) q.0 in
-        let hu = ltb_true u f.w r.0 in
-        let hv = ltb_true v f.h r.1 in
+        let hu = ltb-true u f.w r.0 in
+        let hv = ltb-true v f.h r.1 in
         ⊎_elim
         (λ (k : not (on_screen s (x u) (y v) right bottom) ≡ true).
         let p = off_outside hu hv (not-true _ k) in (p.0, p.1, p.2, p.3, p.4, p.5, lost_from _ _ (inl p.6)))
@@ -180,7 +180,7 @@ module _ (s : Size) (higher : List Layer) (c : ℕ) (f : Frame) (i j : ℕ) wher
       let q = any_one (λ u. obscured s higher (outline c f) (16 * i + u) (16 * j + p.0)) 16 p.2 in
       let r = and_parts (ltb (16 * i + q.0) f.w && ltb (16 * j + p.0) f.h) _ q.2 in
       let t = and_parts (ltb (16 * i + q.0) f.w) (ltb (16 * j + p.0) f.h) r.0 in
-      lost_area f (16 * i) (16 * j) s higher q.0 p.0 q.1 p.1 (ltb_true _ _ t.0) (ltb_true _ _ t.1) r.1
+      lost_area f (16 * i) (16 * j) s higher q.0 p.0 q.1 p.1 (ltb-true _ _ t.0) (ltb-true _ _ t.1) r.1
 
   pub hidden_by_area : hidden s higher (outline c f) i j ≡ hidden_area s higher f (16 * i) (16 * j)
   hidden_by_area = same_bool _ _ hidden_lost area_hidden
@@ -197,7 +197,7 @@ module _ (s : Size) (fs : List Frame) (c i j : ℕ) where
           → (b : Bool) → eqb d c ≡ b → (b || has c cs) ≡ true
           → cond b (hidden s (outlines cs fs) (outline d (get_or fs d no_frame)) i j) (hidden_in s (outlines cs fs) c i j)
           ≡ hidden s (cond b (outlines cs fs) (above c (outlines cs fs))) (outline c (get_or fs c no_frame)) i j
-      go ih true e h = ap (λ k. hidden s (outlines cs fs) (outline k (get_or fs k no_frame)) i j) (eqb_true d c e)
+      go ih true e h = ap (λ k. hidden s (outlines cs fs) (outline k (get_or fs k no_frame)) i j) (eqb-true d c e)
       go ih false e h = ih h
 
   pub hidden_closed : (cs : List ℕ) → has c cs ≡ false → hidden_in s (outlines cs fs) c i j ≡ false

@@ -1,7 +1,7 @@
 -- The loop that leaves a client out of an order, and what an arrangement becomes by it.
 use Rattle.std.proofs.Common.{◌≡◌, ℕ, zero, suc, ◌+◌, ◌<◌, ◌≤◌, Bool, true, false, cond, not, ◌&&◌, ◌||◌, eqb, ltb, List, [], ◌∷◌, ◌++◌, length, get_or, take, drop, set, replicate, ℤ, sym, refl, ap, ◌∙◌, subst, ap₂, ⊎_elim, arith}
-use Rattle.std.proofs.lemmas.List.{append-nil, append_assoc, length_append, length-replicate, length-take-le, length-set, take_more_set, get_or-set_same, get_or-set_other, get_or-replicate, get_or_past, take-replicate, get_or_take, length-take}
-use Rattle.std.proofs.lemmas.Bool.{cases_eq, cases_lt, and_from, and_parts, ltb_true, not-true}
+use Rattle.std.proofs.lemmas.List.{append-nil, append_assoc, length-append, length-replicate, length-take-le, length-set, take_more_set, get_or-set_same, get_or-set_other, get_or-replicate, get_or_past, take-replicate, get_or-take, length-take}
+use Rattle.std.proofs.lemmas.Bool.{cases_eq, cases_lt, and_from, and_parts, ltb-true, not-true}
 use Rattle.paper.specs.Layers.{Layer, without, only, alter, at_corner}
 use Rattle.plan.specs.declared.frame.Frame.{Frame}
 use Rattle.plan.specs.declared.plan.Plan.{Plan}
@@ -55,7 +55,7 @@ module _ (c : ℕ) (xs : List ℕ) (count : ℕ) (front : List ℕ) (i n : ℕ) 
   pub sift_room : i < count → eqb (get_or xs i 0) c ≡ false → length front + length (others c (take count xs)) ≤ 8 → n < 8
   sift_room h e room =
       let s : length (take n out) + length (others c (drop i (take count xs))) ≡ length front + length (others c (take count xs)) =
-      sym (length_append (take n out) _) ∙ ap length a.so_far ∙ length_append front _ in
+      sym (length-append (take n out) _) ∙ ap length a.so_far ∙ length-append front _ in
       let o = ap length (at_turn h false e) in
       omega (arith, length-take-le n out (let l = a.long in let f = a.few in omega arith))
 
@@ -86,7 +86,7 @@ same_frames p r e d = ap (λ fs. get_or fs d no_frame) e
 
 pub listed_low : (p : Plan) (k : ℕ) → get_or (listed p) k 0 < 8
 listed_low p k =
-    ⊎_elim (λ (h : k < p.count). omega (arith, get_or_take p.count p.order k 0 h, p.low k))
+    ⊎_elim (λ (h : k < p.count). omega (arith, get_or-take p.count p.order k 0 h, p.low k))
     (λ (h : p.count ≤ k). omega (arith, get_or_past (listed p) k 0 (omega (arith, length-take p.count p.order))))
     (cases_lt k p.count)
 
@@ -180,10 +180,10 @@ opens p c f h =
     let b = and_parts (not (has c (listed p))) (ltb f.w 321 && ltb f.h 241) a.1 in
     let d = and_parts (ltb f.w 321) (ltb f.h 241) b.1 in
     record {
-      client = ltb_true c 8 a.0;
+      client = ltb-true c 8 a.0;
       none = not-true _ b.0;
-      narrow = omega (arith, ltb_true f.w 321 d.0);
-      short = omega (arith, ltb_true f.h 241 d.1);
+      narrow = omega (arith, ltb-true f.w 321 d.0);
+      short = omega (arith, ltb-true f.h 241 d.1);
     }
 
 pub has_last : (c d : ℕ) (cs : List ℕ) → has d (cs ++ (c ∷ [])) ≡ (has d cs || eqb c d)

@@ -3,7 +3,7 @@ use Rattle.std.proofs.Common.{◌≡◌, ℕ, ◌<◌, Bool, true, false, cond, 
 use lib.Signed.{non_neg}
 use Rattle.std.proofs.lemmas.Int.{ints}
 use Rattle.std.proofs.lemmas.Bool.Decides.{nat_tests}
-use Rattle.std.proofs.lemmas.Bool.{and_parts, true≢false, ltb_true}
+use Rattle.std.proofs.lemmas.Bool.{and_parts, true≢false, ltb-true}
 use Rattle.raster.specs.Blt.{holds, inside}
 use Rattle.paper.specs.Layers.{covered}
 use Rattle.plan.specs.declared.frame.Frame.{Frame}

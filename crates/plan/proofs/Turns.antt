@@ -1,6 +1,6 @@
 -- Loops over the clients of an arrangement: what is left of them at a turn, and at the end.
 use Rattle.std.proofs.Common.{◌≡◌, ℕ, ◌+◌, ◌<◌, ◌≤◌, Bool, true, false, cond, ◌&&◌, ◌||◌, eqb, List, [], ◌∷◌, length, get_or, take, drop, ℤ, pos, ◌+ℤ◌, Some, None, Option, sym, refl, ap, ◌∙◌, ap₂, arith, w16, w32, SFits, to_z, of_z}
-use Rattle.std.proofs.lemmas.List.{at_drop_more, at_drop_all, length-take-le, get_or_take}
+use Rattle.std.proofs.lemmas.List.{at_drop_more, at_drop_all, length-take-le, get_or-take}
 use Rattle.std.proofs.lemmas.Int.{ints}
 use Rattle.std.proofs.lemmas.Bool.Decides.{nat_tests}
 use Rattle.raster.specs.Blt.{holds, in_rectangle}
@@ -17,7 +17,7 @@ module _ {Y : Type 0} (F : List ℕ → Y) (n i : ℕ) (xs : List ℕ) (long : n
   pub turn : i < n → F (drop i (take n xs)) ≡ F (get_or xs i 0 ∷ drop (i + 1) (take n xs))
   turn k =
       let e = length-take-le n xs long in
-      at_drop_more F (take n xs) i 0 (omega arith) ∙ ap (λ d. F (d ∷ drop (i + 1) (take n xs))) (get_or_take n xs i 0 k)
+      at_drop_more F (take n xs) i 0 (omega arith) ∙ ap (λ d. F (d ∷ drop (i + 1) (take n xs))) (get_or-take n xs i 0 k)
 
   pub turned : n ≤ i → F (drop i (take n xs)) ≡ F []
   turned k = let e = length-take-le n xs long in at_drop_all F (take n xs) i (omega arith)

@@ -2,7 +2,7 @@
 use Rattle.std.proofs.Common.{◌≡◌, ℕ, ◌+◌, ◌-◌, ◌*◌, ◌/◌, ◌%◌, ◌^◌, ◌<◌, ◌≤◌, Bool, true, false, cond, ◌&&◌, ltb, ◌⊎◌, List, length, get_or, sym, refl, ap, ◌∙◌, inl, inr, ⊎_elim, mod-eq_of_lt, arith}
 use Rattle.std.proofs.lemmas.Nat.{div-add-mod', mod_below, div-mul-add, mod-mul-add}
 use Rattle.std.proofs.lemmas.List.{ext_get_or}
-use Rattle.std.proofs.lemmas.Bool.{cases_lt, cases_Bool, cond_true, and_from, and_parts, both_ways, lt-ltb, ltb_true}
+use Rattle.std.proofs.lemmas.Bool.{cases_lt, cases_Bool, cond-true, and_from, and_parts, both_ways, lt-ltb, ltb-true}
 use Rattle.raster.specs.Rules.{total, bit}
 use Rattle.raster.specs.Picture.{Picture}
 use Rattle.raster.specs.declared.size.Size.{Size}
@@ -21,7 +21,7 @@ pixel_bit : (words : List ℕ) (s : Size) (j x y : ℕ) → j < s.depth → x < 
     → bit (get_or words (word_of s.width s.height j x y) 0) (bit_of x) ≡ bit ((laid_out words s).at x y) j
 unfolding pixel
 pixel_bit words s j x y lj lx ly =
-    sym (ap (λ n. bit n j) (cond_true _ _ _ (and_from _ _ (lt-ltb x s.width lx) (lt-ltb y s.height ly)))
+    sym (ap (λ n. bit n j) (cond-true _ _ _ (and_from _ _ (lt-ltb x s.width lx) (lt-ltb y s.height ly)))
     ∙ total_bit (λ j. bit (get_or words (word_of s.width s.height j x y) 0) (bit_of x)) (λ j. bit_below _ _) s.depth j lj)
 
 -- the pixel that bit k of word i would belong to
@@ -40,9 +40,9 @@ module _ (s : Size) (i k : ℕ) (lk : k < 32) where
   used_word t =
       let q = and_parts (ltb 0 s.height) (ltb column s.width && ltb (row / s.height) s.depth) t in
       let r = and_parts (ltb column s.width) (ltb (row / s.height) s.depth) q.1 in
-      let h = ltb_true 0 s.height q.0 in
-      let c = ltb_true column s.width r.0 in
-      let j = ltb_true (row / s.height) s.depth r.1 in
+      let h = ltb-true 0 s.height q.0 in
+      let c = ltb-true column s.width r.0 in
+      let j = ltb-true (row / s.height) s.depth r.1 in
       let e : (row / s.height) * s.height + row % s.height ≡ row = div-add-mod' row s.height in
       let w : column / 32 ≡ i % stride s.width = div-mul-add (i % stride s.width) 32 (31 - k) (omega arith) in (
         sym (by_rows s.width s.height (row / s.height) column (row % s.height) ∙ ap (λ n. n * stride s.width + column / 32) e ∙ ap (λ n. row * stride s.width + n) w ∙ div-add-mod' i (stride s.width)),

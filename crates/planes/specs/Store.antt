@@ -8,7 +8,7 @@ use native.Mathlib.Omega.{arith}
 use Rattle.std.specs.Int.Bits.{differ, xor_step, xor_zero_r}
 use Rattle.std.proofs.lemmas.Nat.{pow_pos, pow-add, shr_split, shr-shr, shr_high, mod_low, mod_below, mod-pow-add, div-add-mod', mul-add-lt, div-mul-add, mod-mul-add, div_below, shl_whole, and_mask, xor_block}
 use Rattle.std.proofs.lemmas.List.{length-set, get_or-set_same, get_or-set_other, set_past, get_or_read}
-use Rattle.std.proofs.lemmas.Bool.{cases_lt, cases_eq, cases_order, cases_Bool, and_parts, and_from, both_ways, cond_true, cond_false, eqb_true, eq-eqb, ltb_true}
+use Rattle.std.proofs.lemmas.Bool.{cases_lt, cases_eq, cases_order, cases_Bool, and_parts, and_from, both_ways, cond-true, cond-false, eqb-true, eq-eqb, ltb-true}
 use Rattle.std.proofs.lemmas.Bool.Decides.{nat_tests}
 use Rattle.raster.specs.Rules.{total, bit}
 use Rattle.raster.specs.Picture.{Picture, Sound, painted, with_pixel}
@@ -208,21 +208,21 @@ module _ (words : List ℕ) (s : Size) (x y v : ℕ) (lx : x < s.width) (ly : y 
       ⊎_elim
       (λ (e : (a == x && b == y) ≡ true).
       let q = and_parts (a == x) (b == y) e in
-      let ea : a ≡ x = eqb_true a x q.0 in
-      let eb : b ≡ y = eqb_true b y q.1 in
+      let ea : a ≡ x = eqb-true a x q.0 in
+      let eb : b ≡ y = eqb-true b y q.1 in
       let i : (nat_lt a w && nat_lt b h) ≡ true = grind (arith, nat_tests) in
-      cond_true (nat_lt a w && nat_lt b h) _ _ i ∙ ap (λ n. pixel after w h depth n b) ea
+      cond-true (nat_lt a w && nat_lt b h) _ _ i ∙ ap (λ n. pixel after w h depth n b) ea
       ∙ ap (λ n. pixel after w h depth x n) eb ∙ stored_pixel words w h depth x y v lx ly room lv
-      ∙ sym (cond_true (a == x && b == y) _ _ e))
+      ∙ sym (cond-true (a == x && b == y) _ _ e))
       (λ (e : (a == x && b == y) ≡ false).
-      inner a b (nat_lt a w && nat_lt b h) refl (λ ea eb. absurd (both_ways _ e (and_from _ _ (eq-eqb a x ea) (eq-eqb b y eb)))) ∙ sym (cond_false (a == x && b == y) _ _ e))
+      inner a b (nat_lt a w && nat_lt b h) refl (λ ea eb. absurd (both_ways _ e (and_from _ _ (eq-eqb a x ea) (eq-eqb b y eb)))) ∙ sym (cond-false (a == x && b == y) _ _ e))
       (cases_Bool (a == x && b == y))
     where
       inner : (a b : ℕ) (t : Bool) → (nat_lt a s.width && nat_lt b s.height) ≡ t → (a ≡ x → b ≢ y)
           → cond t (pixel (stored words s.width s.height x y v s.depth) s.width s.height s.depth a b) 0 ≡ cond t (pixel words s.width s.height s.depth a b) 0
       inner a b true e ne =
           let q = and_parts (nat_lt a s.width) (nat_lt b s.height) e in
-          stored_apart words s.width s.height s.depth x y v lx ly room a b (ltb_true a s.width q.0) (ltb_true b s.height q.1) ne
+          stored_apart words s.width s.height s.depth x y v lx ly room a b (ltb-true a s.width q.0) (ltb-true b s.height q.1) ne
       inner a b false e ne = refl
 
   pub laid_put : laid_out (stored words s.width s.height x y v s.depth) s ≡ with_pixel (laid_out words s) x y v
@@ -251,5 +251,5 @@ laid_sound words n s c =
       high = c.1;
       deep = (c.2, c.3);
       values = λ x y. cond_less (nat_lt x s.width && nat_lt y s.height) _ _ (pixel_below words s.width s.height s.depth x y);
-      outside = λ x y o. cond_false (nat_lt x s.width && nat_lt y s.height) _ _ (grind (arith, nat_tests));
+      outside = λ x y o. cond-false (nat_lt x s.width && nat_lt y s.height) _ _ (grind (arith, nat_tests));
     }

@@ -1,5 +1,5 @@
 -- A clipped BitBlt: the pixels it concerns, counted, and the picture after it.
-use Rattle.std.proofs.Common.{◌≡◌, ℕ, zero, suc, ◌+◌, ◌-◌, ◌*◌, ◌<◌, ◌≤◌, min, Bool, true, false, cond, ◌&&◌, ◌||◌, ltb, leb, ℤ, pos, nat_abs, sym, refl, ap, ◌∙◌, subst, ⊎_elim, suc_mul, zero-mul, mul-one, arith}
+use Rattle.std.proofs.Common.{◌≡◌, ℕ, zero, suc, ◌+◌, ◌-◌, ◌*◌, ◌<◌, ◌≤◌, min, Bool, true, false, cond, ◌&&◌, ◌||◌, ltb, leb, ℤ, pos, nat_abs, sym, refl, ap, ◌∙◌, subst, ⊎_elim, suc-mul, zero-mul, mul-one, arith}
 use Rattle.std.proofs.lemmas.Bool.Decides.{nat_tests}
 use Rattle.std.proofs.lemmas.Bool.{and_parts, cases_Bool}
 use Rattle.raster.specs.Rules.{total, combined}
@@ -27,7 +27,7 @@ total_part first len c (suc n) =
     (⊎_elim
     (λ (t : between first len n ≡ true).
     let e : min (suc n) (first + len) - first ≡ suc (min n (first + len) - first) = grind (arith, nat_tests) in
-    rw (t, e) (sym (suc_mul (min n (first + len) - first) c)))
+    rw (t, e) (sym (suc-mul (min n (first + len) - first) c)))
     (λ (t : between first len n ≡ false).
     let e : min (suc n) (first + len) - first ≡ min n (first + len) - first = grind (arith, nat_tests) in
     rw (t, e) (omega arith))

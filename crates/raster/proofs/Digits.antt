@@ -2,7 +2,7 @@
 use Rattle.std.proofs.Common.{◌≡◌, ℕ, zero, suc, ◌+◌, ◌-◌, ◌*◌, ◌/◌, ◌%◌, ◌^◌, ◌<◌, ◌≤◌, Bool, true, false, ◌&&◌, eqb, ◌⊎◌, List, [], get_or, sym, refl, ap, ◌∙◌, inl, inr, ⊎_elim, mod-eq_of_lt, mul_assoc, add_comm, pow-suc, add-one, arith, pow_mono}
 use native.Mathlib.Nat.{add-mul-div_right, add-mul-mod_self_right}
 use Rattle.std.proofs.lemmas.Nat.{mod-pow-add, pow_pos, pow-add, mod_below, shr_split, mul-le, div-mul-add, mod-mul-add, shr-shr, mod_low, shr_high, shl-shr, shl_whole}
-use Rattle.std.proofs.lemmas.Bool.{and_parts, eqb_true, cases_lt, cases_order}
+use Rattle.std.proofs.lemmas.Bool.{and_parts, eqb-true, cases_lt, cases_order}
 use Rattle.raster.specs.Rules.{total, bit, result, combined}
 
 abbrev pub all_below : (ℕ → Bool) → ℕ → Bool
@@ -20,7 +20,7 @@ pub table_rule : (rows : List (List ℕ)) →
     all_below (λ r. all_below (λ p. eqb (get_or (get_or rows r []) p 0) (bit r (3 - p))) 4) 16 ≡ true →
     (r p : ℕ) → r < 16 → p < 4 → get_or (get_or rows r []) p 0 ≡ bit r (3 - p)
 table_rule rows t r p hr hp =
-    eqb_true _ _
+    eqb-true _ _
     (at_below (λ p. eqb (get_or (get_or rows r []) p 0) (bit r (3 - p))) 4
     (at_below (λ r. all_below (λ p. eqb (get_or (get_or rows r []) p 0) (bit r (3 - p))) 4) 16 t r hr) p hp)
 
@@ -80,7 +80,7 @@ bits_all v (suc n) =
 pub of_two_bits : (rule : ℕ) (pick : ℕ → ℕ → ℕ) → all_below (λ s. all_below (λ d. eqb (result rule s d) (pick s d)) 2) 2 ≡ true
     → (s d : ℕ) → s < 2 → d < 2 → result rule s d ≡ pick s d
 of_two_bits rule pick t s d ls ld =
-    eqb_true _ _ (at_below (λ d. eqb (result rule s d) (pick s d)) 2 (at_below (λ s. all_below (λ d. eqb (result rule s d) (pick s d)) 2) 2 t s ls) d ld)
+    eqb-true _ _ (at_below (λ d. eqb (result rule s d) (pick s d)) 2 (at_below (λ s. all_below (λ d. eqb (result rule s d) (pick s d)) 2) 2 t s ls) d ld)
 
 -- what a rule makes of two pixels
 

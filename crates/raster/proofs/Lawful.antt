@@ -1,7 +1,7 @@
 -- The laws over the definitions.
 use Rattle.std.proofs.Common.{◌≡◌, ℕ, zero, suc, ◌+◌, ◌*◌, ◌^◌, ◌<◌, ◌≤◌, Bool, true, false, cond, ◌&&◌, eqb, ltb, ◌⊎◌, ℤ, pos, nat_abs, Some, None, Option, sym, refl, ap, ◌∙◌, subst, ⊎_elim, mod-eq_of_lt, arith}
 use Rattle.std.proofs.lemmas.Int.{ints}
-use Rattle.std.proofs.lemmas.Bool.{cases_Bool, cond_true, cond_false, cond_both, and_parts, both_ways, eqb_true}
+use Rattle.std.proofs.lemmas.Bool.{cases_Bool, cond-true, cond-false, cond_both, and_parts, both_ways, eqb-true}
 use Rattle.std.proofs.lemmas.Bool.Decides.{nat_tests}
 use Rattle.raster.specs.Rules.{total, bit, result, combined}
 use Rattle.raster.specs.Picture.{Picture, sizes, Sound, painted, with_pixel}
@@ -19,7 +19,7 @@ use Rattle.raster.proofs.Paints.{painted_same, painted_at, painted_sizes}
 -- rules
 
 rule_is_sum : (rule : ℕ) → rule < 16 → 8 * result rule 0 0 + 4 * result rule 0 1 + 2 * result rule 1 0 + result rule 1 1 ≡ rule
-rule_is_sum rule l = eqb_true _ _ (at_below (λ r. eqb (8 * result r 0 0 + 4 * result r 0 1 + 2 * result r 1 0 + result r 1 1) r) 16 refl rule l)
+rule_is_sum rule l = eqb-true _ _ (at_below (λ r. eqb (8 * result r 0 0 + 4 * result r 0 1 + 2 * result r 1 0 + result r 1 1) r) 16 refl rule l)
 
 -- a rule whose result bit is always that of one of the two pixels
 one_of : (rule depth s d v : ℕ) → ((j : ℕ) → result rule (bit s j) (bit d j) ≡ bit v j) → v < 2 ^ depth → combined depth rule s d ≡ v
@@ -62,7 +62,7 @@ module _ (p s : Picture) (rule v : ℕ) (x y sx sy : ℤ) (w h : ℕ) (has : Has
 -- what calls leave
 
 painted_stays : (p : Picture) (t : ℕ → ℕ → Bool) (v : ℕ → ℕ → ℕ) (x y : ℕ) → t x y ≡ false → (painted p t v).at x y ≡ p.at x y
-painted_stays p t v x y e = painted_at p t v x y ∙ cond_false (t x y) _ _ e
+painted_stays p t v x y e = painted_at p t v x y ∙ cond-false (t x y) _ _ e
 
 change_others : (p : Picture) (call : BitmapCall) (x y : ℕ) → concerns p call x y ≡ false → (bitmap_change p call).at x y ≡ p.at x y
 unfolding blt
@@ -89,7 +89,7 @@ painted_sound p t v s small within =
       values = λ x y. cond_both (t x y) (v x y) (p.at x y) (λ n. n < 2 ^ p.depth) (small x y) (λ _. s.values x y);
       outside = λ x y o.
           ⊎_elim (λ (e : t x y ≡ true). let q = within x y e in absurd (⊎_elim (λ (l : p.width ≤ x). omega (arith, q)) (λ (l : p.height ≤ y). omega (arith, q)) o))
-          (λ (e : t x y ≡ false). cond_false (t x y) _ _ e ∙ s.outside x y o) (cases_Bool (t x y));
+          (λ (e : t x y ≡ false). cond-false (t x y) _ _ e ∙ s.outside x y o) (cases_Bool (t x y));
     }
 
 concerned_within : (t : Transfer) (src : Source) (d : Size) (x y : ℕ) → concerned t src d x y ≡ true → (x < d.width) × (y < d.height)
@@ -105,7 +105,7 @@ change_sound p (read_at a b) s ok = s
 change_sound p (write_at a b v) s ok =
     let f = write_found p a b v (nat_abs a) (nat_abs b) (ap (λ o. unless o (nat_abs a, nat_abs b)) (sym ok)) in
     painted_sound p _ _ s (λ x y _. f.small)
-    (λ x y t. let q = and_parts (eqb x (nat_abs a)) (eqb y (nat_abs b)) t in (omega (arith, eqb_true x (nat_abs a) q.0, f.across), omega (arith, eqb_true y (nat_abs b) q.1, f.down)))
+    (λ x y t. let q = and_parts (eqb x (nat_abs a)) (eqb y (nat_abs b)) t in (omega (arith, eqb-true x (nat_abs a) q.0, f.across), omega (arith, eqb-true y (nat_abs b) q.1, f.down)))
 change_sound p (fill_with rule v a b w h) s ok = painted_sound p _ _ s (λ x y _. combined_below p.depth rule _ _) (λ x y t. concerned_within _ _ (sizes p) x y t)
 change_sound p (scroll_by t) s ok = painted_sound p _ _ s (λ x y _. combined_below p.depth t.rule _ _) (λ x y e. concerned_within _ _ (sizes p) x y e)
 

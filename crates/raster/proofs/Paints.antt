@@ -1,7 +1,7 @@
 -- Painted pictures: when two are equal, and one more turn of a painting.
 use Rattle.std.proofs.Common.{◌≡◌, ℕ, ◌+◌, ◌-◌, ◌<◌, ◌≤◌, Bool, true, false, cond, ◌&&◌, ◌||◌, eqb, ltb, leb, sym, refl, ap, ◌∙◌, subst, arith}
 use Rattle.std.proofs.lemmas.Bool.Decides.{nat_tests}
-use Rattle.std.proofs.lemmas.Bool.{and_parts, and_left, and_right, eqb_true, cond_false}
+use Rattle.std.proofs.lemmas.Bool.{and_parts, and_left, and_right, eqb-true, cond-false}
 use Rattle.raster.specs.Rules.{combined}
 use Rattle.raster.specs.Picture.{Picture, sizes, painted, with_pixel}
 use Rattle.raster.specs.Blits.{between, spans, opposite, turn, inked, mixed, performed, Below}
@@ -36,7 +36,7 @@ painted_same p t u v w e h =
 
 pub painted_none : (p : Picture) (t : ℕ → ℕ → Bool) (v : ℕ → ℕ → ℕ) → ((x y : ℕ) → t x y ≡ false) → painted p t v ≡ p
 unfolding painted
-painted_none p t v e = same_picture (painted p t v) p refl refl refl (λ x y. cond_false (t x y) (v x y) (p.at x y) (e x y))
+painted_none p t v e = same_picture (painted p t v) p refl refl refl (λ x y. cond-false (t x y) (v x y) (p.at x y) (e x y))
 
 both_times : (t u t' : Bool) (v w a : ℕ) → t' ≡ (u || t) → (u ≡ true → w ≡ v) → cond u w (cond t v a) ≡ cond t' v a
 both_times t true t' v w a e h = rw e (h refl)
@@ -81,7 +81,7 @@ inked_kept : (ink : Ink) (p : Picture) (t : ℕ → ℕ → Bool) (v : ℕ → �
     → inked ink (painted p t v) x y ≡ inked ink p x y
 unfolding painted
 inked_kept (Value n) p t v x y e = refl
-inked_kept Itself p t v x y e = cond_false (t x y) (v x y) (p.at x y) e
+inked_kept Itself p t v x y e = cond-false (t x y) (v x y) (p.at x y) e
 
 or_and : (a b c : Bool) → ((a || b) && c) ≡ ((a && c) || (b && c))
 or_and true true true = refl
@@ -130,7 +130,7 @@ module _ (b : Blit) (y sy : ℕ) (p : Picture) where
       let e1 : s ≡ inked b.ink p (opposite cols x) sy =
       e ∙ inked_kept b.ink p t v (cols.source + k) sy (and_left _ _ (not_read cols i h)) ∙ ap (λ n. inked b.ink p n sy) (sym (ap (opposite cols) ex ∙ opposite_turn cols k)) in
       let e2 : (painted p t v).at (cols.first + k) y ≡ p.at x z =
-      painted_at p t v (cols.first + k) y ∙ cond_false _ _ _ (and_left _ _ (not_painted cols i h)) ∙ ap (λ n. p.at n y) (sym ex) ∙ ap (p.at x) (sym ez) in
+      painted_at p t v (cols.first + k) y ∙ cond-false _ _ _ (and_left _ _ (not_painted cols i h)) ∙ ap (λ n. p.at n y) (sym ex) ∙ ap (p.at x) (sym ez) in
       ap (λ (n : Size). combined n.depth b.rule.number s ((painted p t v).at (cols.first + k) y)) (painted_sizes p t v)
       ∙ ap (λ n. combined p.depth b.rule.number n ((painted p t v).at (cols.first + k) y)) e1
       ∙ ap (combined p.depth b.rule.number (inked b.ink p (opposite cols x) sy)) e2
@@ -146,7 +146,7 @@ module _ (b : Blit) (y sy : ℕ) (p : Picture) where
       (λ a c. ap (λ t. t && eqb c y) (so_far_more b.columns i a h) ∙ or_and (eqb a at) (so_far b.columns i a) (eqb c y))
       (λ a c t.
       let q = and_parts (eqb a at) (eqb c y) t in
-      row_value i s a c h e (eqb_true a _ q.0) (eqb_true c y q.1))
+      row_value i s a c h e (eqb-true a _ q.0) (eqb-true c y q.1))
 
   -- one more turn, from any picture q that is the row so far
   pub row_more : (q q' : Picture) (i k s : ℕ) → i < b.columns.len → k ≡ turn b.columns i → q ≡ row_so_far b y sy i p
@@ -186,7 +186,7 @@ module _ (b : Blit) (p : Picture) where
       let e1 : inked b.ink (painted p t v) from (rows.source + k) ≡ inked b.ink p from (opposite rows z) =
       inked_kept b.ink p t v from (rows.source + k) (and_right _ _ (not_read rows j h)) ∙ ap (λ n. inked b.ink p from n) (sym (ap (opposite rows) ez ∙ opposite_turn rows k)) in
       let e2 : (painted p t v).at x z ≡ p.at x z =
-      painted_at p t v x z ∙ cond_false _ _ _ (and_right _ _ (ap (so_far rows j) ez ∙ not_painted rows j h)) in
+      painted_at p t v x z ∙ cond-false _ _ _ (and_right _ _ (ap (so_far rows j) ez ∙ not_painted rows j h)) in
       ap (λ (n : Size). combined n.depth b.rule.number (inked b.ink (painted p t v) from (rows.source + k)) ((painted p t v).at x z)) (painted_sizes p t v)
       ∙ ap (λ n. combined p.depth b.rule.number n ((painted p t v).at x z)) e1
       ∙ ap (combined p.depth b.rule.number (inked b.ink p from (opposite rows z))) e2
@@ -200,7 +200,7 @@ module _ (b : Blit) (p : Picture) where
       (λ x z. ap (λ t. spans b.columns x && t) (so_far_more b.rows j z h) ∙ and_or (spans b.columns x) (eqb z at) (so_far b.rows j z))
       (λ x z t.
       let q = and_parts (spans b.columns x) (eqb z at) t in
-      rows_value j x z h (eqb_true z _ q.1))
+      rows_value j x z h (eqb-true z _ q.1))
 
   pub rows_more : (q q' : Picture) (j k : ℕ) → j < b.rows.len → k ≡ turn b.rows j → q ≡ rows_so_far b j p
       → q' ≡ row_painted b (b.rows.first + k) (b.rows.source + k) q

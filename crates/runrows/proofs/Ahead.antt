@@ -2,13 +2,13 @@
 use Rattle.std.proofs.Common.{◌≡◌, ℕ, ◌+◌, ◌-◌, ◌*◌, ◌/◌, ◌%◌, ◌^◌, ◌<◌, ◌≤◌, cond, eqb, ltb, List, [], ◌∷◌, length, get_or, take, drop, set, sym, refl, ap, ◌∙◌, arith, below_more}
 use Rattle.std.proofs.lemmas.Nat.{one_shl}
 use Rattle.std.proofs.lemmas.List.{take_rest, nil_from_length, get_or-set_same, get_or-set_other}
-use Rattle.std.proofs.lemmas.Bool.{cond_false, ne_eqb, le-ltb}
+use Rattle.std.proofs.lemmas.Bool.{cond-false, ne_eqb, le-ltb}
 use Rattle.runrows.specs.Runs.{run_at}
 use Rattle.runrows.specs.Reading.{ahead, Refilled, Onward}
 
 -- nothing is left of a run
 from_start : (depth value : ℕ) (rest : List ℕ) (x : ℕ) → ahead depth 0 value rest x ≡ run_at depth rest x
-from_start depth value rest x = cond_false (ltb x 0) _ _ (le-ltb x 0 (omega arith)) ∙ ap (run_at depth rest) (omega arith)
+from_start depth value rest x = cond-false (ltb x 0) _ _ (le-ltb x 0 (omega arith)) ∙ ap (run_at depth rest) (omega arith)
 
 -- no entry is left
 pub row_ended : (depth left value : ℕ) (rest : List ℕ) → left ≤ 0 → length rest < 1 → Refilled depth left value rest left value rest
@@ -31,7 +31,7 @@ entry_taken depth left value (e ∷ es) few l some ne =
       same = λ x.
           ap (λ n. ahead depth (e / 16) n (take (length (e ∷ es) - 1) (drop 1 (e ∷ es))) x) v
           ∙ ap (λ (fs : List ℕ). ahead depth (e / 16) (e % 16 % 2 ^ depth) fs x) (take_rest (e ∷ es) 1)
-          ∙ sym (ap (λ n. ahead depth n value (e ∷ es) x) z ∙ from_start depth value (e ∷ es) x ∙ cond_false (eqb (e / 16) 0) _ _ (ne_eqb (e / 16) 0 ne));
+          ∙ sym (ap (λ n. ahead depth n value (e ∷ es) x) z ∙ from_start depth value (e ∷ es) x ∙ cond-false (eqb (e / 16) 0) _ _ (ne_eqb (e / 16) 0 ne));
       ended = λ q x. absurd (ne q);
     }
 

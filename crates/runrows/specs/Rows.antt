@@ -1,11 +1,11 @@
 -- Rows in a list of entries: where they lie, what a written row changes, and what is kept from call to call.
 use Rattle.std.specs.Prelude.{◌≡◌, ℕ, suc, ◌+◌, ◌-◌, ◌*◌, ◌^◌, ◌<◌, ◌≤◌, Bool, true, false, cond, ◌&&◌, ◌||◌, ◌⊎◌, List, length, take, drop, ◌==◌, ◌≢◌, nat_eq, nat_lt, slice_index, refl}
-use Rattle.std.proofs.Common.{sym, ap, subst, ◌∙◌, inl, inr, ⊎_elim, suc_mul, arith, rules}
+use Rattle.std.proofs.Common.{sym, ap, subst, ◌∙◌, inl, inr, ⊎_elim, suc-mul, arith, rules}
 use borrow.Rule.Slice.PartMut.{put_mid}
 use Rattle.std.proofs.lemmas.Nat.{mul-le}
-use Rattle.std.proofs.lemmas.List.{ext_get_or, get_or_take, get_or-drop, length-take, length-drop, places}
+use Rattle.std.proofs.lemmas.List.{ext_get_or, get_or-take, get_or-drop, length-take, length-drop, places}
 use Rattle.std.proofs.lemmas.Slice.{between-put_mid}
-use Rattle.std.proofs.lemmas.Bool.{cond_true, cond_false, cases_Bool, cases_lt, cases_eq, and_parts, both_ways, eqb_true, eq-eqb, ltb_true, or_cases, or_parts, eqb-false}
+use Rattle.std.proofs.lemmas.Bool.{cond-true, cond-false, cases_Bool, cases_lt, cases_eq, and_parts, both_ways, eqb-true, eq-eqb, ltb-true, or_cases, or_parts, eqb-false}
 use Rattle.std.proofs.lemmas.Bool.Decides.{nat_tests}
 use Rattle.raster.specs.Picture.{Picture, Sound}
 use Rattle.raster.specs.declared.size.Size.{Size}
@@ -21,12 +21,12 @@ rows_sound entries n s c =
       high = c.1;
       deep = (c.2, c.3);
       values = λ x y. cond_less (nat_lt x s.width && nat_lt y s.height) _ _ (run_below s.depth (row_entries entries s.width y) x);
-      outside = λ x y o. cond_false (nat_lt x s.width && nat_lt y s.height) _ _ (grind (arith, nat_tests));
+      outside = λ x y o. cond-false (nat_lt x s.width && nat_lt y s.height) _ _ (grind (arith, nat_tests));
     }
 
 -- two rows do not overlap, and each has room
 rows_apart : (w y z : ℕ) → y < z → y * w + w ≤ z * w
-rows_apart w y z l = omega (arith, suc_mul y w, mul-le (suc y) w z w l (omega arith))
+rows_apart w y z l = omega (arith, suc-mul y w, mul-le (suc y) w z w l (omega arith))
 
 pub row_room : (s : Size) (n y : ℕ) → Carried n s → y < s.height → y * s.width + s.width ≤ n
 row_room s n y c l = omega (arith, c.4, rows_apart s.width y s.height l)
@@ -45,8 +45,8 @@ rows_alike es fs w y l e =
     ext_get_or 0 (row_entries fs w y) (row_entries es w y) (simp (length-take, length-drop) (omega (arith, l)))
     (λ i m.
     let h : i < w = omega (arith, simp (length-take, length-drop) at m) in
-    get_or_take w (drop (y * w) fs) i 0 h ∙ get_or-drop (y * w) fs i 0 ∙ e (y * w + i) (omega arith) (omega arith)
-    ∙ sym (get_or_take w (drop (y * w) es) i 0 h ∙ get_or-drop (y * w) es i 0))
+    get_or-take w (drop (y * w) fs) i 0 h ∙ get_or-drop (y * w) fs i 0 ∙ e (y * w + i) (omega arith) (omega arith)
+    ∙ sym (get_or-take w (drop (y * w) es) i 0 h ∙ get_or-drop (y * w) es i 0))
 
 -- a row put into a list of rows
 pub row_put : (xs ys pixels : List ℕ) (s : Size) (y : ℕ) → y * s.width + s.width ≤ length xs → length ys ≡ s.width
@@ -81,17 +81,17 @@ module _ (s : Size) (y : ℕ) (pixels es fs : List ℕ) (ly : y < s.height) (r :
       ⊎_elim
       (λ (t : (nat_lt a s.width && nat_lt b s.height) ≡ true).
       let q = and_parts (nat_lt a s.width) (nat_lt b s.height) t in
-      let la = ltb_true a s.width q.0 in
-      cond_true (nat_lt a s.width && nat_lt b s.height) _ _ t
+      let la = ltb-true a s.width q.0 in
+      cond-true (nat_lt a s.width && nat_lt b s.height) _ _ t
       ∙ ⊎_elim
-      (λ (e : b ≡ y). ap (λ n. run_at s.depth (row_entries fs s.width n) a) e ∙ r.value a la ∙ sym (cond_true (nat_lt a s.width && b == y) _ _ (grind (arith, nat_tests))))
+      (λ (e : b ≡ y). ap (λ n. run_at s.depth (row_entries fs s.width n) a) e ∙ r.value a la ∙ sym (cond-true (nat_lt a s.width && b == y) _ _ (grind (arith, nat_tests))))
       (λ (ne : b ≡ y → ⊥).
-      ap (λ (gs : List ℕ). run_at s.depth gs a) (row_stays s y pixels es fs b r ne) ∙ sym (cond_true (nat_lt a s.width && nat_lt b s.height) _ _ t)
-      ∙ sym (cond_false (nat_lt a s.width && b == y) _ _ (grind (arith, nat_tests))))
+      ap (λ (gs : List ℕ). run_at s.depth gs a) (row_stays s y pixels es fs b r ne) ∙ sym (cond-true (nat_lt a s.width && nat_lt b s.height) _ _ t)
+      ∙ sym (cond-false (nat_lt a s.width && b == y) _ _ (grind (arith, nat_tests))))
       (cases_eq b y))
       (λ (t : (nat_lt a s.width && nat_lt b s.height) ≡ false).
-      cond_false (nat_lt a s.width && nat_lt b s.height) _ _ t
-      ∙ sym (cond_false (nat_lt a s.width && b == y) _ _ (grind (arith, nat_tests)) ∙ cond_false (nat_lt a s.width && nat_lt b s.height) _ _ t))
+      cond-false (nat_lt a s.width && nat_lt b s.height) _ _ t
+      ∙ sym (cond-false (nat_lt a s.width && b == y) _ _ (grind (arith, nat_tests)) ∙ cond-false (nat_lt a s.width && nat_lt b s.height) _ _ t))
       (cases_Bool (nat_lt a s.width && nat_lt b s.height))
 
   pub written_rewrites : Rewritten s (λ b. nat_eq b y) es fs
@@ -100,7 +100,7 @@ module _ (s : Size) (y : ℕ) (pixels es fs : List ℕ) (ly : y < s.height) (r :
         long = r.long;
         past = λ k l. r.others k (inr (omega (arith, rows_apart s.width y s.height ly)));
         stays = λ b l f. row_stays s y pixels es fs b r (eqb-false b y f);
-        settles = λ b l f. let e : b ≡ y = eqb_true b y f in rw e r.settled;
+        settles = λ b l f. let e : b ≡ y = eqb-true b y f in rw e r.settled;
       }
 
 -- what is kept from call to call

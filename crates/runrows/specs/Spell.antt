@@ -2,7 +2,7 @@
 use Rattle.std.specs.Prelude.{◌≡◌, ℕ, zero, suc, ◌+◌, ◌-◌, ◌*◌, ◌/◌, ◌%◌, ◌^◌, ◌<◌, ◌≤◌, Bool, true, false, cond, ◌≢◌, ◌⊎◌, List, [], ◌∷◌, length, set, ◌==◌, nat_lt, slice_index, slice_index_or, slice_set, refl}
 use Rattle.std.proofs.Common.{sym, ap, subst, ◌∙◌, inl, inr, ⊎_elim, mod-eq_of_lt, arith, pow_mono}
 use Rattle.std.proofs.lemmas.List.{length-set, get_or-set_same, get_or-set_other}
-use Rattle.std.proofs.lemmas.Bool.{cases_lt, cases_eq, cond_true, cond_false, eq-eqb, ne_eqb, lt-ltb, le-ltb, cond_both}
+use Rattle.std.proofs.lemmas.Bool.{cases_lt, cases_eq, cond-true, cond-false, eq-eqb, ne_eqb, lt-ltb, le-ltb, cond_both}
 use Rattle.std.proofs.lemmas.Nat.{pow_pos, mod_below}
 use Rattle.raster.specs.Rules.{total}
 use Rattle.raster.proofs.Digits.{total_alike}
@@ -33,13 +33,13 @@ run_reads depth [] k x l some lo hi = absurd (omega arith)
 run_reads depth (e ∷ es) zero x l some lo hi =
     let p : 0 < e / 16 = some 0 (omega arith) in
     let h : x < e / 16 = omega arith in
-    cond_false (e / 16 == 0) _ _ (ne_eqb (e / 16) 0 (omega arith)) ∙ cond_true (nat_lt x (e / 16)) _ _ (lt-ltb x (e / 16) h)
+    cond-false (e / 16 == 0) _ _ (ne_eqb (e / 16) 0 (omega arith)) ∙ cond-true (nat_lt x (e / 16)) _ _ (lt-ltb x (e / 16) h)
 run_reads depth (e ∷ es) (suc k) x l some lo hi =
     let p : 0 < e / 16 = some 0 (omega arith) in
     let f1 : starts (e ∷ es) (suc k) ≡ e / 16 + starts es k = total_first (run_len (e ∷ es)) k in
     let f2 : starts (e ∷ es) (suc (suc k)) ≡ e / 16 + starts es (suc k) = total_first (run_len (e ∷ es)) (suc k) in
     let h : e / 16 ≤ x = omega arith in
-    cond_false (e / 16 == 0) _ _ (ne_eqb (e / 16) 0 (omega arith)) ∙ cond_false (nat_lt x (e / 16)) _ _ (le-ltb x (e / 16) h)
+    cond-false (e / 16 == 0) _ _ (ne_eqb (e / 16) 0 (omega arith)) ∙ cond-false (nat_lt x (e / 16)) _ _ (le-ltb x (e / 16) h)
     ∙ run_reads depth es k (x - e / 16) (omega arith) (λ i m. some (suc i) (omega arith)) (omega arith) (omega arith)
 
 -- lists that agree below a place

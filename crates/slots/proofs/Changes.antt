@@ -1,7 +1,7 @@
 -- A change of one layer is no matter to the patches that neither its frame before nor its frame after meets.
 use Rattle.std.proofs.Common.{◌≡◌, ℕ, ◌+◌, ◌*◌, ◌/◌, ◌%◌, ◌<◌, ◌≤◌, min, Bool, true, false, cond, not, ◌&&◌, ◌||◌, eqb, ltb, ◌⊎◌, List, [], ◌∷◌, get_or, ℤ, pos, ◌+ℤ◌, sym, refl, ap, ◌∙◌, subst, ap₂, inl, inr, ⊎_elim, arith}
 use Rattle.std.proofs.lemmas.Int.{ints}
-use Rattle.std.proofs.lemmas.Bool.{cases_Bool, cases_eq, cases_lt, both_ways, eqb_true, eq-eqb, ne_eqb, and_from, and_left, and_right, le-ltb, or_left, or_right}
+use Rattle.std.proofs.lemmas.Bool.{cases_Bool, cases_eq, cases_lt, both_ways, eqb-true, eq-eqb, ne_eqb, and_from, and_left, and_right, le-ltb, or_left, or_right}
 use Rattle.std.proofs.lemmas.Bool.Decides.{nat_tests}
 use Rattle.raster.specs.declared.size.Size.{Size}
 use Rattle.paper.specs.Layers.{Layer, without}
@@ -32,7 +32,7 @@ module _ (fs : List Frame) (c : ℕ) (left top right bottom : ℤ) where
 
   off_here : (e : ℕ) (cs : List ℕ) → Off (e ∷ cs) → eqb c e ≡ true → meets_frame e ≡ false
   off_here e cs off h =
-      let same = eqb_true c e h in
+      let same = eqb-true c e h in
       ap meets_frame (sym same) ∙ off (or_left (eqb e c) (has c cs) (eq-eqb e c (sym same)))
 
   abbrev hit : List Layer → Bool
@@ -55,7 +55,7 @@ module _ (fs : List Frame) (c : ℕ) (left top right bottom : ℤ) where
           → (b : Bool) → eqb c e ≡ b → (a : Bool) → eqb e d ≡ a
           → hit (above d (cond (not b) (outline e (get_or fs e no_frame) ∷ without c (outlines cs fs)) (without c (outlines cs fs))))
           ≡ hit (cond a (outlines cs fs) (above d (outlines cs fs)))
-      go ih all true h true i = absurd (ne (sym (eqb_true e d i) ∙ sym (eqb_true c e h)))
+      go ih all true h true i = absurd (ne (sym (eqb-true e d i) ∙ sym (eqb-true c e h)))
       go ih all true h false i = ih
       go ih all false h true i = ap (λ a. hit (cond a (without c (outlines cs fs)) (above d (without c (outlines cs fs))))) i ∙ all
       go ih all false h false i = ap (λ a. hit (cond a (without c (outlines cs fs)) (above d (without c (outlines cs fs))))) i ∙ ih
@@ -161,7 +161,7 @@ module _ (p q : Plan) (c : ℕ) (ch : Concerns p q c) (area : Frame) (was : has 
   moved_none : (whole : Bool) → k < 2400 → patch_of q (cond whole c 255) k ≡ false
   moved_none whole l =
       ⊎_elim
-      (λ (e : eqb d (cond whole c 255) ≡ true). none whole (eqb_true d (cond whole c 255) e))
+      (λ (e : eqb d (cond whole c 255) ≡ true). none whole (eqb-true d (cond whole c 255) e))
       (λ (e : eqb d (cond whole c 255) ≡ false). and_right _ _ (and_left _ _ e))
       (cases_Bool (eqb d (cond whole c 255)))
     where

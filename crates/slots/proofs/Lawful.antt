@@ -1,6 +1,6 @@
 -- Patches counted by their numbers are those that a desk on paper counts.
 use Rattle.std.proofs.Common.{◌≡◌, ℕ, ◌+◌, ◌*◌, ◌/◌, ◌%◌, ◌<◌, ◌≤◌, Bool, true, false, cond, not, ◌&&◌, ◌||◌, eqb, ltb, ◌⊎◌, sym, refl, ap, ◌∙◌, ap₂, inl, inr, ⊎_elim, arith}
-use Rattle.std.proofs.lemmas.Bool.{cases_Bool, eqb_true, ne_eqb, or_from, and_from, and_left, and_right, lt-ltb, le-ltb, not_from_false, both_ways}
+use Rattle.std.proofs.lemmas.Bool.{cases_Bool, eqb-true, ne_eqb, or_from, and_from, and_left, and_right, lt-ltb, le-ltb, not_from_false, both_ways}
 use Rattle.std.proofs.lemmas.Bool.Decides.{nat_tests}
 use Rattle.paper.specs.Slots.{hidden_in, patches_in, count_patches, hidden_count, slots_needed}
 use Rattle.plan.specs.declared.frame.Frame.{Frame}
@@ -65,7 +65,7 @@ moved_bounded p moved = record { closed = λ c i j h. closed c i j h (eqb c move
   where
     closed : (c i j : ℕ) → has c (listed p) ≡ false → (t : Bool) → eqb c moved ≡ t
         → (has moved (listed p) && (t && (ltb (16 * i) (frame_in p moved).w && ltb (16 * j) (frame_in p moved).h))) ≡ false
-    closed c i j h true e = and_left _ _ (ap (λ k. has k (listed p)) (sym (eqb_true c moved e)) ∙ h)
+    closed c i j h true e = and_left _ _ (ap (λ k. has k (listed p)) (sym (eqb-true c moved e)) ∙ h)
     closed c i j h false e = and_right (has moved (listed p)) false refl
 
     small : (c i j : ℕ) → Outside (frame_in p c) i j → (ltb (16 * i) (frame_in p c).w && ltb (16 * j) (frame_in p c).h) ≡ false
@@ -75,7 +75,7 @@ moved_bounded p moved = record { closed = λ c i j h. closed c i j h (eqb c move
     outside : (c i j : ℕ) → Outside (frame_in p c) i j → (t : Bool) → eqb c moved ≡ t
         → (has moved (listed p) && (t && (ltb (16 * i) (frame_in p moved).w && ltb (16 * j) (frame_in p moved).h))) ≡ false
     outside c i j o true e =
-        and_right (has moved (listed p)) _ (ap (λ k. ltb (16 * i) (frame_in p k).w && ltb (16 * j) (frame_in p k).h) (sym (eqb_true c moved e)) ∙ small c i j o)
+        and_right (has moved (listed p)) _ (ap (λ k. ltb (16 * i) (frame_in p k).w && ltb (16 * j) (frame_in p k).h) (sym (eqb-true c moved e)) ∙ small c i j o)
     outside c i j o false e = and_right (has moved (listed p)) false refl
 
 moved_inside : (p : Plan) (moved c i j : ℕ) → has c (listed p) ≡ true → 16 * i < (frame_in p c).w → 16 * j < (frame_in p c).h → moved_patch p moved c i j ≡ eqb moved c
@@ -83,7 +83,7 @@ moved_inside p moved c i j h hi hj = go (eqb c moved) refl ∙ flip c moved
   where
     go : (t : Bool) → eqb c moved ≡ t → moved_patch p moved c i j ≡ eqb c moved
     go true e =
-        let same = eqb_true c moved e in
+        let same = eqb-true c moved e in
         and_from _ _ (ap (λ k. has k (listed p)) (sym same) ∙ h)
         (and_from _ _ e (ap (λ k. ltb (16 * i) (frame_in p k).w && ltb (16 * j) (frame_in p k).h) (sym same)
         ∙ and_from _ _ (lt-ltb (16 * i) (frame_in p c).w hi) (lt-ltb (16 * j) (frame_in p c).h hj))) ∙ sym e

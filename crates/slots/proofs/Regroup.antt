@@ -1,7 +1,7 @@
 -- Sums over the numbers of patches, regrouped by client, row and column.
 use Rattle.std.proofs.Common.{◌≡◌, ℕ, zero, suc, ◌+◌, ◌-◌, ◌*◌, ◌/◌, ◌%◌, ◌<◌, ◌≤◌, Bool, true, false, cond, not, ◌&&◌, ◌||◌, eqb, ltb, ◌⊎◌, List, [], ◌∷◌, get_or, sym, refl, ap, ◌∙◌, ap₂, inl, inr, ⊎_elim, add-zero, add_assoc, add-mul, one-mul, zero-add, zero-mul, add-one, arith}
 use Rattle.std.proofs.lemmas.Nat.{div-mul-add, mod-mul-add}
-use Rattle.std.proofs.lemmas.Bool.{and_parts, cases_lt, cases_eq, cases_Bool, cond_true, cond_false, eqb_true, eqb-false, eq-eqb, ne_eqb, or_left, or_right, not-true, both_ways}
+use Rattle.std.proofs.lemmas.Bool.{and_parts, cases_lt, cases_eq, cases_Bool, cond-true, cond-false, eqb-true, eqb-false, eq-eqb, ne_eqb, or_left, or_right, not-true, both_ways}
 use Rattle.std.proofs.lemmas.Bool.Decides.{nat_tests}
 use Rattle.raster.specs.Rules.{total}
 use Rattle.raster.proofs.Digits.{total_alike}
@@ -77,10 +77,10 @@ tally_one g d zero h = absurd (omega arith)
 tally_one g d (suc n) h =
     tally_suc (λ c. cond (eqb d c) (g c) 0) n
     ∙ ⊎_elim
-    (λ (l : d < n). ap₂ ◌+◌ (tally_one g d n l) (cond_false (eqb d n) (g n) 0 (ne_eqb d n (λ e. omega arith))) ∙ add-zero (g d))
+    (λ (l : d < n). ap₂ ◌+◌ (tally_one g d n l) (cond-false (eqb d n) (g n) 0 (ne_eqb d n (λ e. omega arith))) ∙ add-zero (g d))
     (λ (l : n ≤ d).
     let same : d ≡ n = omega arith in
-    ap₂ ◌+◌ (tally_none (λ c. cond (eqb d c) (g c) 0) n (λ k m. cond_false (eqb d k) (g k) 0 (ne_eqb d k (λ e. omega arith)))) (cond_true (eqb d n) (g n) 0 (eq-eqb d n same))
+    ap₂ ◌+◌ (tally_none (λ c. cond (eqb d c) (g c) 0) n (λ k m. cond-false (eqb d k) (g k) 0 (ne_eqb d k (λ e. omega arith)))) (cond-true (eqb d n) (g n) 0 (eq-eqb d n same))
     ∙ zero-add (g n) ∙ ap g (sym same))
     (cases_lt d n)
 
@@ -97,7 +97,7 @@ tally_clients test fs n (d ∷ cs) h low =
     let q = and_parts (not (has d cs)) (distinct cs) h in
     let g : ℕ → ℕ = λ c. patches_in (test c) (outline c (get_or fs c no_frame)) in
     tally_alike (λ c. cond (eqb d c || has c cs) (g c) 0) (λ c. cond (eqb d c) (g c) 0 + cond (has c cs) (g c) 0) n
-    (λ c l. either_share (eqb d c) (has c cs) (g c) (λ e. ap (λ k. has k cs) (sym (eqb_true d c e)) ∙ not-true _ q.0))
+    (λ c l. either_share (eqb d c) (has c cs) (g c) (λ e. ap (λ k. has k cs) (sym (eqb-true d c e)) ∙ not-true _ q.0))
     ∙ tally_plus (λ c. cond (eqb d c) (g c) 0) (λ c. cond (has c cs) (g c) 0) n
     ∙ ap₂ ◌+◌ (tally_one g d n (low d (or_left (eqb d d) (has d cs) (eq-eqb d d refl)))) (tally_clients test fs n cs q.1 (λ k e. low k (or_right (eqb d k) (has k cs) e)))
 

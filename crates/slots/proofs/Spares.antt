@@ -1,7 +1,7 @@
 -- One slot given to a patch, and one given back: the table stays one.
 use Rattle.std.proofs.Common.{◌≡◌, ℕ, ◌+◌, ◌-◌, ◌<◌, ◌≤◌, Bool, true, false, ltb, ◌⊎◌, List, length, get_or, set, sym, refl, ap, ◌∙◌, subst, inl, inr, ⊎_elim, arith}
 use Rattle.std.proofs.lemmas.List.{get_or-set_same, get_or-set_other}
-use Rattle.std.proofs.lemmas.Bool.{cases_eq, ltb_true, ltb-false, lt-ltb, le-ltb}
+use Rattle.std.proofs.lemmas.Bool.{cases_eq, ltb-true, ltb-false, lt-ltb, le-ltb}
 use Rattle.slots.specs.declared.slots.Slots.{Slots}
 use Rattle.slots.specs.Entries.{passing, Clash, Spare, Double, Reused}
 use Rattle.slots.specs.Tables.{has_slot}
@@ -91,7 +91,7 @@ module _ (t : Slots) (k : ℕ) (there : k < 2400) (long : length t.table ≡ 240
     own = get_or t.table k 0
 
     own_low : own < t.places
-    own_low = ltb_true _ _ some
+    own_low = ltb-true _ _ some
 
     pub back_none : ltb (get_or (set t.table k 65535) k 0) t.places ≡ false
     back_none = le-ltb _ _ (let e = get_or-set_same t.table k 65535 0 there' in let r = t.room in omega arith)

@@ -1,5 +1,5 @@
 use Rattle.std.proofs.Common.{◌≡◌, ℕ, ◌+◌, ◌*◌, ◌<◌, min, sym, refl, ap, ◌∙◌, subst, arith}
-use Rattle.std.proofs.lemmas.Bool.{ltb_true}
+use Rattle.std.proofs.lemmas.Bool.{ltb-true}
 use Rattle.raster.specs.Picture.{sizes}
 use Rattle.moving.proofs.Blanks.{Blanking, blank_none, blank_all, blank_turn, blank_past, slot_found}
 use Rattle.moving.proofs.blanking.blank.Goals as goal
@@ -14,7 +14,7 @@ blank-slot-requires g c =
     let t = c.args.slots.now in
     let q = slot_found t (300 * c.min.result + c.loop-i.i) c.in-Some.k c.in-Some.ensures in
     let e = q.0 in
-    omega (arith, ltb_true _ _ q.1, t.room)
+    omega (arith, ltb-true _ _ q.1, t.room)
 
 pub loop-i-preserved : goal.loop-i-preserved
 loop-i-preserved g c =

@@ -1,5 +1,5 @@
 use Rattle.std.proofs.Common.{◌≡◌, sym, ap, ◌∙◌, arith}
-use Rattle.std.proofs.lemmas.Bool.{cond_true, and_from, lt-ltb}
+use Rattle.std.proofs.lemmas.Bool.{cond-true, and_from, lt-ltb}
 use Rattle.raster.specs.Rules.{total}
 use Rattle.planes.specs.Layout.{pixel}
 use Rattle.planes.specs.Store.{read_more}
@@ -23,4 +23,4 @@ unfolding pixel
 returns c =
     let e : c.loop-j.j ≡ c.args.size.depth = omega arith in
     c.loop-j.invariant ∙ ap (total _) e
-    ∙ sym (cond_true _ _ _ (and_from _ _ (lt-ltb c.args.x c.args.size.width c.requires.across) (lt-ltb c.args.y c.args.size.height c.requires.down)))
+    ∙ sym (cond-true _ _ _ (and_from _ _ (lt-ltb c.args.x c.args.size.width c.requires.across) (lt-ltb c.args.y c.args.size.height c.requires.down)))

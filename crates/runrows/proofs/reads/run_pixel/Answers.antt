@@ -1,7 +1,7 @@
 use Rattle.std.proofs.Common.{◌≡◌, ℕ, ◌+◌, ◌-◌, ◌*◌, ◌/◌, ◌%◌, ◌^◌, ◌<◌, cond, eqb, ltb, List, length, get_or, drop, sym, ap, ◌∙◌, arith}
 use Rattle.std.proofs.lemmas.Nat.{one_shl}
 use Rattle.std.proofs.lemmas.List.{at_drop_more, at_drop_all}
-use Rattle.std.proofs.lemmas.Bool.{cond_true, cond_false, eq-eqb, ne_eqb, lt-ltb, le-ltb}
+use Rattle.std.proofs.lemmas.Bool.{cond-true, cond-false, eq-eqb, ne_eqb, lt-ltb, le-ltb}
 use Rattle.runrows.specs.Runs.{run_at}
 use Rattle.runrows.proofs.reads.run_pixel.Goals as goal
 
@@ -17,7 +17,7 @@ returns-then-len-eq0 c =
     let xs = c.args.row.now in
     let i = c.loop-entry.entry-index in
     sym (sym c.loop-entry.invariant ∙ next c.args.depth xs i c.loop-entry.left c.loop-entry-test.true
-    ∙ cond_true (eqb (get_or xs i 0 / 16) 0) _ _ (eq-eqb _ 0 (omega arith)))
+    ∙ cond-true (eqb (get_or xs i 0 / 16) 0) _ _ (eq-eqb _ 0 (omega arith)))
 
 pub returns-then-left-len : goal.returns-then-left-len
 returns-then-left-len c =
@@ -25,14 +25,14 @@ returns-then-left-len c =
     let i = c.loop-entry.entry-index in
     ap (λ n. get_or xs i 0 % 16 % n) (one_shl c.args.depth 16 (omega arith))
     ∙ sym (sym c.loop-entry.invariant ∙ next c.args.depth xs i c.loop-entry.left c.loop-entry-test.true
-    ∙ cond_false (eqb (get_or xs i 0 / 16) 0) _ _ (ne_eqb _ 0 (omega arith)) ∙ cond_true (ltb c.loop-entry.left (get_or xs i 0 / 16)) _ _ (lt-ltb _ _ (omega arith)))
+    ∙ cond-false (eqb (get_or xs i 0 / 16) 0) _ _ (ne_eqb _ 0 (omega arith)) ∙ cond-true (ltb c.loop-entry.left (get_or xs i 0 / 16)) _ _ (lt-ltb _ _ (omega arith)))
 
 pub loop-entry-preserved : goal.loop-entry-preserved
 loop-entry-preserved c =
     let xs = c.args.row.now in
     let i = c.loop-entry.entry-index in
     sym (sym c.loop-entry.invariant ∙ next c.args.depth xs i c.loop-entry.left c.loop-entry-test.true
-    ∙ cond_false (eqb (get_or xs i 0 / 16) 0) _ _ (ne_eqb _ 0 (omega arith)) ∙ cond_false (ltb c.loop-entry.left (get_or xs i 0 / 16)) _ _ (le-ltb _ _ (omega arith)))
+    ∙ cond-false (eqb (get_or xs i 0 / 16) 0) _ _ (ne_eqb _ 0 (omega arith)) ∙ cond-false (ltb c.loop-entry.left (get_or xs i 0 / 16)) _ _ (le-ltb _ _ (omega arith)))
 
 pub returns : goal.returns
 returns c =

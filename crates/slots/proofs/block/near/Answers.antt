@@ -1,5 +1,5 @@
 use Rattle.std.proofs.Common.{◌<◌, arith, w16, SFits, rules}
-use Rattle.std.proofs.lemmas.Int.{to_z_of_z}
+use Rattle.std.proofs.lemmas.Int.{to_z-of_z}
 use Rattle.slots.proofs.Blocks.{reached_at, near_has}
 use Rattle.slots.proofs.block.near.Goals as goal
 
@@ -22,6 +22,6 @@ returns c =
     record {
       inside = λ j h. omega arith;
       all = near_has a.c f r c.along-across.result c.along-down.result
-          (reached_at f.x _ f.w r.x _ r.w c.along-across.result (to_z_of_z w16 f.x fx) (to_z_of_z w16 r.x rx) across.all)
-          (reached_at f.y _ f.h r.y _ r.h c.along-down.result (to_z_of_z w16 f.y fy) (to_z_of_z w16 r.y ry) down.all);
+          (reached_at f.x _ f.w r.x _ r.w c.along-across.result (to_z-of_z w16 f.x fx) (to_z-of_z w16 r.x rx) across.all)
+          (reached_at f.y _ f.h r.y _ r.h c.along-down.result (to_z-of_z w16 f.y fy) (to_z-of_z w16 r.y ry) down.all);
     }

@@ -1,5 +1,5 @@
 use Rattle.std.proofs.Common.{◌≡◌, subst}
-use Rattle.std.proofs.lemmas.Int.{to_z_of_z}
+use Rattle.std.proofs.lemmas.Int.{to_z-of_z}
 use Rattle.raster.specs.Blits.{Prepares}
 use Rattle.raster.specs.Calls.{fill_with}
 use Rattle.raster.specs.declared.size.Size.{Size}
@@ -15,7 +15,7 @@ returns g c =
     let call = fill_with a.rule a.v a.x a.y a.w a.h in
     record {
       does = c.perform.ensures.does (fill_layer a.c a.rule a.v a.x a.y a.w a.h) call fills
-          (subst (λ (z : Size). Prepares z call c.fill-prepared.result) c.pane_size.ensures (simp to_z_of_z at c.fill-prepared.ensures));
+          (subst (λ (z : Size). Prepares z call c.fill-prepared.result) c.pane_size.ensures (simp to_z-of_z at c.fill-prepared.ensures));
       rest = c.perform.ensures.rest;
       refused = c.perform.ensures.refused;
     }

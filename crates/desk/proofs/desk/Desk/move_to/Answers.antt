@@ -1,6 +1,6 @@
 use Rattle.std.proofs.Common.{◌≡◌, true, sym, refl, ap, ◌∙◌, subst, w16, to_z, of_z}
 use Rattle.std.proofs.lemmas.Result.{err_from_is_err_and}
-use Rattle.std.proofs.lemmas.Int.{to_z_of_z}
+use Rattle.std.proofs.lemmas.Int.{to_z-of_z}
 use Rattle.plan.specs.Frames.{has}
 use Rattle.plan.specs.Plans.{listed, layers_in, frame_in}
 use Rattle.plan.specs.Arranged.{Arranged, cornered}
@@ -31,8 +31,8 @@ returns-in-err-slots g c =
     let t = g.T.Bitmap.picture d.store in
     let p = d.book.plan in
     let after = c.moved-after.result in
-    let ex : to_z w16 (of_z w16 a.x) ≡ a.x = to_z_of_z w16 a.x c.ranges.x in
-    let ey : to_z w16 (of_z w16 a.y) ≡ a.y = to_z_of_z w16 a.y c.ranges.y in
+    let ex : to_z w16 (of_z w16 a.x) ≡ a.x = to_z-of_z w16 a.x c.ranges.x in
+    let ey : to_z w16 (of_z w16 a.y) ≡ a.y = to_z-of_z w16 a.y c.ranges.y in
     let arranged = at_corner_passed (λ x y. Arranged p after (alter a.c (at_corner x y) (layers_in p)) (λ d. has d (listed p))) ex ey c.moved-after.ensures.arranged in
     let own = at_corner_passed (λ x y. has a.c (listed p) ≡ true → frame_in after a.c ≡ cornered x y (frame_in p a.c)) ex ey c.moved-after.ensures.own in
     let few = c.in-err-slots.ensures (move_concerns p after a.c a.x a.y arranged c.moved-after.ensures.frames own) in
@@ -61,8 +61,8 @@ returns g c =
     let t = g.T.Bitmap.picture d.store in
     let p = d.book.plan in
     let after = c.moved-after.result in
-    let ex : to_z w16 (of_z w16 a.x) ≡ a.x = to_z_of_z w16 a.x c.ranges.x in
-    let ey : to_z w16 (of_z w16 a.y) ≡ a.y = to_z_of_z w16 a.y c.ranges.y in
+    let ex : to_z w16 (of_z w16 a.x) ≡ a.x = to_z-of_z w16 a.x c.ranges.x in
+    let ey : to_z w16 (of_z w16 a.y) ≡ a.y = to_z-of_z w16 a.y c.ranges.y in
     let arranged = at_corner_passed (λ x y. Arranged p after (alter a.c (at_corner x y) (layers_in p)) (λ d. has d (listed p))) ex ey c.moved-after.ensures.arranged in
     let own = at_corner_passed (λ x y. has a.c (listed p) ≡ true → frame_in after a.c ≡ cornered x y (frame_in p a.c)) ex ey c.moved-after.ensures.own in
     let e = c.carry.new.self in

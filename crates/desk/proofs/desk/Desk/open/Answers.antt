@@ -1,6 +1,6 @@
 use Rattle.std.proofs.Common.{◌≡◌, false, sym, refl, ap, ◌∙◌, subst, w16, to_z, of_z}
 use Rattle.std.proofs.lemmas.Result.{err_from_is_err_and}
-use Rattle.std.proofs.lemmas.Int.{to_z_of_z}
+use Rattle.std.proofs.lemmas.Int.{to_z-of_z}
 use Rattle.raster.specs.Picture.{Picture, sizes}
 use Rattle.raster.specs.Calls.{fill_with, bitmap_after}
 use Rattle.paper.specs.Desk.{Answer, open_layer}
@@ -35,7 +35,7 @@ returns-in-err-slots g c =
     let s = g.S.Bitmap.picture d.screen in
     let t = g.T.Bitmap.picture d.store in
     let f : Frame = record { x = to_z w16 (of_z w16 a.x); y = to_z w16 (of_z w16 a.y); w = a.w; h = a.h } in
-    let at = λ (r : Answer) (e : State). at_corner_passed (λ x y. Does (state_on s t d.book) (open_layer a.c x y a.w a.h) r e) (to_z_of_z w16 a.x c.ranges.x) (to_z_of_z w16 a.y c.ranges.y) in
+    let at = λ (r : Answer) (e : State). at_corner_passed (λ x y. Does (state_on s t d.book) (open_layer a.c x y a.w a.h) r e) (to_z-of_z w16 a.x c.ranges.x) (to_z-of_z w16 a.y c.ranges.y) in
     let b = c.current-book.result in
     let ok = c.in-ok-check-new.ensures in
     let fits = c.current-book.ensures.fits in
@@ -73,7 +73,7 @@ returns g c =
     let s = g.S.Bitmap.picture d.screen in
     let t = g.T.Bitmap.picture d.store in
     let f : Frame = record { x = to_z w16 (of_z w16 a.x); y = to_z w16 (of_z w16 a.y); w = a.w; h = a.h } in
-    let at = λ (r : Answer) (e : State). at_corner_passed (λ x y. Does (state_on s t d.book) (open_layer a.c x y a.w a.h) r e) (to_z_of_z w16 a.x c.ranges.x) (to_z_of_z w16 a.y c.ranges.y) in
+    let at = λ (r : Answer) (e : State). at_corner_passed (λ x y. Does (state_on s t d.book) (open_layer a.c x y a.w a.h) r e) (to_z-of_z w16 a.x c.ranges.x) (to_z-of_z w16 a.y c.ranges.y) in
     let b = c.current-book.result in
     let ok = c.in-ok-check-new.ensures in
     let fits = c.current-book.ensures.fits in

@@ -1,6 +1,6 @@
 use Rattle.std.proofs.Common.{◌≡◌, [], ◌∷◌, nat_abs, Ok, Err, sym, ap, ◌∙◌, subst}
 use Rattle.std.proofs.lemmas.Result.{err_from_is_err_and}
-use Rattle.std.proofs.lemmas.Int.{to_z_of_z}
+use Rattle.std.proofs.lemmas.Int.{to_z-of_z}
 use Rattle.raster.specs.Calls.{read_at, unless, bitmap_fault}
 use Rattle.raster.specs.declared.size.Size.{Size}
 use Rattle.raster.proofs.Accepts.{unless_err}
@@ -28,7 +28,7 @@ returns-in-Err g c =
     let fy = c.ranges.y in
     let s = g.S.Bitmap.picture d.screen in
     let t = g.T.Bitmap.picture d.store in
-    let refused = unless_err (bitmap_fault c.pane_size.result (read_at a.x a.y)) (nat_abs a.x, nat_abs a.y) c.in-Err.f (simp to_z_of_z at c.in-Err.ensures) in
+    let refused = unless_err (bitmap_fault c.pane_size.result (read_at a.x a.y)) (nat_abs a.x, nat_abs a.y) c.in-Err.f (simp to_z-of_z at c.in-Err.ensures) in
     ap Err c.carried.ensures
     ∙ sym (answer_refused (on_pictures s t d.book) (read_layer a.c a.x a.y) (carry a.c c.in-Err.f)
     (own_check s t d.book a.c c.in-ok-check-open.ensures (read_at a.x a.y)
@@ -43,5 +43,5 @@ returns-in-Ok g c =
     let s = g.S.Bitmap.picture d.screen in
     let t = g.T.Bitmap.picture d.store in
     own_pixel s t d.book a.c c.in-ok-check-open.ensures a.x a.y c.in-Ok.u c.in-Ok.v c.read-pixel.result
-    ((simp to_z_of_z at c.in-Ok.ensures) ∙ ap (λ (z : Size). unless (bitmap_fault z (read_at a.x a.y)) (nat_abs a.x, nat_abs a.y)) c.pane_size.ensures)
+    ((simp to_z-of_z at c.in-Ok.ensures) ∙ ap (λ (z : Size). unless (bitmap_fault z (read_at a.x a.y)) (nat_abs a.x, nat_abs a.y)) c.pane_size.ensures)
     c.read-pixel.ensures

@@ -1,5 +1,5 @@
 use Rattle.std.proofs.Common.{◌≡◌, subst}
-use Rattle.std.proofs.lemmas.Int.{to_z_of_z}
+use Rattle.std.proofs.lemmas.Int.{to_z-of_z}
 use Rattle.raster.specs.Blits.{Prepares}
 use Rattle.raster.specs.Blt.{transfer}
 use Rattle.raster.specs.Calls.{scroll_by}
@@ -18,7 +18,7 @@ returns g c =
     let call = scroll_by (transfer a.rule a.sx a.sy a.dx a.dy a.w a.h) in
     record {
       does = c.perform.ensures.does (scroll_layer a.c (transfer a.rule a.sx a.sy a.dx a.dy a.w a.h)) call scrolls
-          (subst (λ (z : Size). Prepares z call c.scroll-prepared.result) c.pane_size.ensures (simp to_z_of_z at c.scroll-prepared.ensures));
+          (subst (λ (z : Size). Prepares z call c.scroll-prepared.result) c.pane_size.ensures (simp to_z-of_z at c.scroll-prepared.ensures));
       rest = c.perform.ensures.rest;
       refused = c.perform.ensures.refused;
     }

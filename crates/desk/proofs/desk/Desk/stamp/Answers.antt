@@ -1,6 +1,6 @@
 use Rattle.std.proofs.Common.{◌≡◌, sym, refl, ap, ◌∙◌, subst}
 use Rattle.std.proofs.lemmas.Result.{err_from_is_err_and}
-use Rattle.std.proofs.lemmas.Int.{to_z_of_z}
+use Rattle.std.proofs.lemmas.Int.{to_z-of_z}
 use Rattle.raster.specs.Blt.{transfer}
 use Rattle.raster.specs.declared.size.Size.{Size}
 use Rattle.paper.specs.Desk.{stamp_layer}
@@ -40,7 +40,7 @@ returns g c =
     let fdx = c.ranges.dx in
     let fdy = c.ranges.dy in
     let clipped = stamp_clipped s t d.book a.c move source ok c.size-from.result c.pane-size-size.result c.in-ok-rule.rule c.clip-columns.result c.clip-rows.result
-    c.size-from.ensures c.pane-size-size.ensures c.in-ok-rule.ensures.1 (simp to_z_of_z at c.clip-columns.ensures) (simp to_z_of_z at c.clip-rows.ensures) in
+    c.size-from.ensures c.pane-size-size.ensures c.in-ok-rule.ensures.1 (simp to_z-of_z at c.clip-columns.ensures) (simp to_z-of_z at c.clip-rows.ensures) in
     record {
       does = stamp_does s t d.book a.c move source ok (g.S.Bitmap.picture c.stamp.new.screen) (g.T.Bitmap.picture c.stamp.new.store)
           (c.stamp.ensures.drawn move clipped (fitting s t d.book (stamp_fits s t d.book a.c move source ok))) c.stamp.result (c.stamp.ensures.count move clipped);

@@ -1,5 +1,5 @@
 use Rattle.std.proofs.Common.{◌≡◌, Bool, true, false, not, ℤ, nat_abs, is_err, Ok, Err, sym, ap, ◌∙◌}
-use Rattle.std.proofs.lemmas.Int.{to_z_of_z}
+use Rattle.std.proofs.lemmas.Int.{to_z-of_z}
 use Rattle.std.proofs.lemmas.Bool.{not-true, not-false}
 use Rattle.raster.specs.Picture.{Picture, sizes}
 use Rattle.raster.specs.Blt.{inside}
@@ -20,7 +20,7 @@ returns-then-is-err g c =
     let s : Picture = g.S.Bitmap.picture d.screen in
     let test : true ≡ not (inside (sizes s) a.x a.y) =
     asked c.size-screen.result (sizes s) a.x a.y true c.size-screen.ensures
-    (c.if-is-err.ensures.value ∙ ap is_err (simp to_z_of_z at c.read-place.ensures) ∙ place_test c.size-screen.result a.x a.y (nat_abs a.x, nat_abs a.y)) in
+    (c.if-is-err.ensures.value ∙ ap is_err (simp to_z-of_z at c.read-place.ensures) ∙ place_test c.size-screen.result a.x a.y (nat_abs a.x, nat_abs a.y)) in
     ap Err c.because.ensures ∙ sym (top_off s (g.T.Bitmap.picture d.store) d.book a.x a.y (not-true (inside (sizes s) a.x a.y) (sym test)))
 
 pub returns-then-not-suits : goal.returns-then-not-suits
@@ -32,7 +32,7 @@ returns-then-not-suits g c =
     let s : Picture = g.S.Bitmap.picture d.screen in
     let test : false ≡ not (inside (sizes s) a.x a.y) =
     asked c.size-screen.result (sizes s) a.x a.y false c.size-screen.ensures
-    (c.if-is-err.ensures.value ∙ ap is_err (simp to_z_of_z at c.read-place.ensures) ∙ place_test c.size-screen.result a.x a.y (nat_abs a.x, nat_abs a.y)) in
+    (c.if-is-err.ensures.value ∙ ap is_err (simp to_z-of_z at c.read-place.ensures) ∙ place_test c.size-screen.result a.x a.y (nat_abs a.x, nat_abs a.y)) in
     sym (top_other s (g.T.Bitmap.picture d.store) d.book a.x a.y (not-false (inside (sizes s) a.x a.y) (sym test)) (sym (c.if-not-suits.ensures c.size-screen.ensures)))
 
 pub returns : goal.returns
@@ -44,6 +44,6 @@ returns g c =
     let s : Picture = g.S.Bitmap.picture d.screen in
     let test : false ≡ not (inside (sizes s) a.x a.y) =
     asked c.size-screen.result (sizes s) a.x a.y false c.size-screen.ensures
-    (c.if-is-err.ensures.value ∙ ap is_err (simp to_z_of_z at c.read-place.ensures) ∙ place_test c.size-screen.result a.x a.y (nat_abs a.x, nat_abs a.y)) in
-    ap Ok (simp to_z_of_z at c.top.ensures)
+    (c.if-is-err.ensures.value ∙ ap is_err (simp to_z-of_z at c.read-place.ensures) ∙ place_test c.size-screen.result a.x a.y (nat_abs a.x, nat_abs a.y)) in
+    ap Ok (simp to_z-of_z at c.top.ensures)
     ∙ sym (top_fits s (g.T.Bitmap.picture d.store) d.book a.x a.y (not-false (inside (sizes s) a.x a.y) (sym test)) (sym (c.if-not-suits.ensures c.size-screen.ensures)))

@@ -1,6 +1,6 @@
 use Rattle.std.proofs.Common.{sym, refl, ap, ◌∙◌, subst}
 use Rattle.std.proofs.lemmas.Result.{err_from_is_err_and}
-use Rattle.std.proofs.lemmas.Int.{to_z_of_z}
+use Rattle.std.proofs.lemmas.Int.{to_z-of_z}
 use Rattle.raster.specs.Blits.{Performs}
 use Rattle.raster.specs.Calls.{fill_with, bitmap_fault}
 use Rattle.raster.specs.declared.size.Size.{Size}
@@ -21,7 +21,7 @@ returns-in-err-blit g c =
     let call = fill_with a.rule a.v a.x a.y a.w a.h in
     let p = err_from_is_err_and c.from-residual.result c.from-residual.ensures.1 in
     let r = refused (picture_of g.S.Bitmap g.T.Bitmap a.self.now) call _
-    (ap (λ (z : Size). bitmap_fault z call) (sym c.size.ensures) ∙ (simp to_z_of_z at c.in-err-blit.ensures)) in
+    (ap (λ (z : Size). bitmap_fault z call) (sym c.size.ensures) ∙ (simp to_z-of_z at c.in-err-blit.ensures)) in
     rw (p.1, p.2)
     (record { answer = r.answer; after = r.after; rest = pane_same g.S.Bitmap g.T.Bitmap g.met.S.Bitmap.same g.met.T.Bitmap.same a.self.now; refused = refl })
 
@@ -35,9 +35,9 @@ returns g c =
     let fy = c.ranges.y in
     let call = fill_with a.rule a.v a.x a.y a.w a.h in
     let b = c.in-ok-blit.blit in
-    let d = blit_painted (picture_of s t p) call b (subst (λ (z : Size). Performs z call b) c.size.ensures (simp to_z_of_z at c.in-ok-blit.ensures)) in
+    let d = blit_painted (picture_of s t p) call b (subst (λ (z : Size). Performs z call b) c.size.ensures (simp to_z-of_z at c.in-ok-blit.ensures)) in
     let last = c.fill-2.new.self in
-    let does : Does (state_of s t p.desk) (fill_layer p.client a.rule a.v a.x a.y a.w a.h) c.fill-2.result (state_of s t last) = simp to_z_of_z at c.fill-2.ensures.does in
+    let does : Does (state_of s t p.desk) (fill_layer p.client a.rule a.v a.x a.y a.w a.h) c.fill-2.result (state_of s t last) = simp to_z-of_z at c.fill-2.ensures.does in
     record {
       answer = d.answer c.count.result c.count.ensures;
       after = pane_drawn s t p last fills does;

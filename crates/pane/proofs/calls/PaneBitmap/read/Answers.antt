@@ -1,6 +1,6 @@
 use Rattle.std.proofs.Common.{◌≡◌, ℕ, nat_abs, ap, ◌∙◌}
 use Rattle.std.proofs.lemmas.Result.{err_from_is_err_and}
-use Rattle.std.proofs.lemmas.Int.{to_z_of_z}
+use Rattle.std.proofs.lemmas.Int.{to_z-of_z}
 use Rattle.std.specs.Result.{result_unwrap_or}
 use Rattle.raster.specs.Calls.{read_at}
 use Rattle.raster.proofs.Called.{place_refused, read_found}
@@ -18,7 +18,7 @@ returns-in-err-read-place g c =
     let p = picture_of g.S.Bitmap g.T.Bitmap a.self.now in
     let e = err_from_is_err_and c.from-residual.result c.from-residual.ensures.1 in
     let place : ℕ × ℕ = (nat_abs a.x, nat_abs a.y) in
-    rw (e.1, e.2) (place_refused p (read_at a.x a.y) _ place (at_size p (read_at a.x a.y) place c.size.ensures (simp to_z_of_z at c.in-err-read-place.ensures))).answer
+    rw (e.1, e.2) (place_refused p (read_at a.x a.y) _ place (at_size p (read_at a.x a.y) place c.size.ensures (simp to_z-of_z at c.in-err-read-place.ensures))).answer
 
 pub returns : goal.returns
 returns g c =
@@ -27,9 +27,9 @@ returns g c =
     let fx = c.ranges.x in
     let fy = c.ranges.y in
     let p = picture_of g.S.Bitmap g.T.Bitmap a.self.now in
-    let ok = at_size p (read_at a.x a.y) (nat_abs a.x, nat_abs a.y) c.size.ensures (simp to_z_of_z at c.in-ok-read-place.ensures) in
+    let ok = at_size p (read_at a.x a.y) (nat_abs a.x, nat_abs a.y) c.size.ensures (simp to_z-of_z at c.in-ok-read-place.ensures) in
     (read_found p a.x a.y _ _ ok).answer c.unwrap-or.result
-    (let read : c.read.result ≡ answer (on_paper g.S.Bitmap g.T.Bitmap d) (read_layer a.self.now.client a.x a.y) = simp to_z_of_z at c.read.ensures in
+    (let read : c.read.result ≡ answer (on_paper g.S.Bitmap g.T.Bitmap d) (read_layer a.self.now.client a.x a.y) = simp to_z-of_z at c.read.ensures in
     c.unwrap-or.ensures
     ∙ ap (λ (r : Answer). result_unwrap_or r 0)
     (read ∙ pixel_answer (g.S.Bitmap.picture d.screen) (g.T.Bitmap.picture d.store) d.book a.self.now.client a.x a.y _ _ ok))

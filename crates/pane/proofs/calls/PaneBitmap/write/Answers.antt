@@ -1,6 +1,6 @@
 use Rattle.std.proofs.Common.{ℕ, nat_abs, refl, ◌∙◌}
 use Rattle.std.proofs.lemmas.Result.{err_from_is_err_and}
-use Rattle.std.proofs.lemmas.Int.{to_z_of_z}
+use Rattle.std.proofs.lemmas.Int.{to_z-of_z}
 use Rattle.raster.specs.Calls.{write_at}
 use Rattle.raster.proofs.Called.{place_refused, write_found}
 use Rattle.paper.specs.Desk.{fill_layer}
@@ -21,7 +21,7 @@ returns-in-err-write-place g c =
     let call = write_at a.x a.y a.v in
     let e = err_from_is_err_and c.from-residual.result c.from-residual.ensures.1 in
     let place : ℕ × ℕ = (nat_abs a.x, nat_abs a.y) in
-    let r = place_refused p call _ place (at_size p call place c.size.ensures (simp to_z_of_z at c.in-err-write-place.ensures)) in
+    let r = place_refused p call _ place (at_size p call place c.size.ensures (simp to_z-of_z at c.in-err-write-place.ensures)) in
     rw (e.1, e.2)
     (record { answer = r.answer; after = r.after; rest = pane_same g.S.Bitmap g.T.Bitmap g.met.S.Bitmap.same g.met.T.Bitmap.same a.self.now; refused = refl })
 
@@ -33,9 +33,9 @@ returns g c =
     let t = g.T.Bitmap in
     let fx = c.ranges.x in
     let fy = c.ranges.y in
-    let ok = at_size (picture_of s t p) (write_at a.x a.y a.v) (nat_abs a.x, nat_abs a.y) c.size.ensures (simp to_z_of_z at c.in-ok-write-place.ensures) in
+    let ok = at_size (picture_of s t p) (write_at a.x a.y a.v) (nat_abs a.x, nat_abs a.y) c.size.ensures (simp to_z-of_z at c.in-ok-write-place.ensures) in
     let last = c.fill.new.self in
-    let does : Does (state_of s t p.desk) (fill_layer p.client 3 a.v a.x a.y 1 1) c.fill.result (state_of s t last) = simp to_z_of_z at c.fill.ensures.does in
+    let does : Does (state_of s t p.desk) (fill_layer p.client 3 a.v a.x a.y 1 1) c.fill.result (state_of s t last) = simp to_z-of_z at c.fill.ensures.does in
     record {
       answer = (write_found (picture_of s t p) a.x a.y a.v _ _ ok).answer;
       after = pane_drawn s t p last fills does ∙ write_fills (picture_of s t p) a.x a.y a.v _ _ ok;

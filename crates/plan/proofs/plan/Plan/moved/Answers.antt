@@ -1,5 +1,5 @@
 use Rattle.std.proofs.Common.{◌≡◌, ℕ, ◌<◌, length, get_or, set, sym, refl, ap, ◌∙◌, arith, rules}
-use Rattle.std.proofs.lemmas.Int.{to_z_of_z}
+use Rattle.std.proofs.lemmas.Int.{to_z-of_z}
 use Rattle.std.proofs.lemmas.Bool.{both_ways}
 use Rattle.plan.specs.Frames.{no_frame}
 use Rattle.plan.specs.Arranged.{cornered}
@@ -37,8 +37,8 @@ returns c =
     let h = sym c.if-not-is-open.ensures in
     let fx = c.ranges.x in let fy = c.ranges.y in
     record {
-      arranged = record { screen = refl; layers = simp to_z_of_z (moved_layers p c.args.c c.args.x c.args.y h); clients = λ d. refl };
+      arranged = record { screen = refl; layers = simp to_z-of_z (moved_layers p c.args.c c.args.x c.args.y h); clients = λ d. refl };
       frames = λ d ne. set_others p c.args.c _ d ne;
-      own = λ _. simp to_z_of_z (set_own p c.args.c (cornered c.args.x c.args.y (get_or p.frames c.args.c no_frame)) (open_low p c.args.c h));
+      own = λ _. simp to_z-of_z (set_own p c.args.c (cornered c.args.x c.args.y (get_or p.frames c.args.c no_frame)) (open_low p c.args.c h));
       same = λ n. absurd (both_ways _ n h);
     }

@@ -1,5 +1,5 @@
 use Rattle.std.proofs.Common.{◌≡◌, ℕ, ◌+◌, ◌≤◌, Bool, true, false, cond, List, length, get_or, take, drop, ℤ, pos, ◌+ℤ◌, Some, None, Option, sym, ap, ◌∙◌, arith, w16, w32, rules}
-use Rattle.std.proofs.lemmas.Int.{to_z_of_z}
+use Rattle.std.proofs.lemmas.Int.{to_z-of_z}
 use Rattle.paper.specs.Layers.{covers}
 use Rattle.plan.specs.Frames.{no_frame}
 use Rattle.plan.specs.Plans.{listed, outline}
@@ -16,13 +16,13 @@ loop-i-preserved c =
     let d = get_or p.order c.loop-i.i 0 in
     let f = get_or p.frames d no_frame in
     let rest = drop (c.loop-i.i + 1) (listed p) in
-    let i = simp to_z_of_z at c.loop-i.invariant in
+    let i = simp to_z-of_z at c.loop-i.invariant in
     let area : c.meets.result ≡ meets f.x f.y f.w f.h c.args.x c.args.y (c.args.x +ℤ pos 1) (c.args.y +ℤ pos 1) =
     let ex = wide c.args.x fx in let ey = wide c.args.y fy in let gx = wide_sum c.args.x 1 fx (omega arith) in let gy = wide_sum c.args.y 1 fy (omega arith) in
     search (rules, ex, ey, gx, gy) in
     let m : c.meets.result ≡ covers (outline d f) c.args.x c.args.y = area ∙ meets_place f.x f.y f.w f.h c.args.x c.args.y in
     let h : c.if-meets.found ≡ cond (covers (outline d f) c.args.x c.args.y) (Some d) c.loop-i.found = elim c.if-meets.branch [ then-meets w ↦ w.found-is ∙ ap (λ b. cond b (Some d) c.loop-i.found) (sym w.if-meets.true ∙ m) | else-meets w ↦ w.found-is ∙ ap (λ b. cond b (Some d) c.loop-i.found) (sym w.if-meets.false ∙ m) ] in
-    simp to_z_of_z (ap (λ o. topmost_or o p.frames c.args.x c.args.y rest) h
+    simp to_z-of_z (ap (λ o. topmost_or o p.frames c.args.x c.args.y rest) h
     ∙ sym (turn (topmost_or c.loop-i.found p.frames c.args.x c.args.y) p.count c.loop-i.i p.order k (omega arith)
     ∙ topmost_turn c.loop-i.found p.frames c.args.x c.args.y d rest) ∙ i)
 
@@ -31,5 +31,5 @@ returns c =
     let p = c.args.self.now in
     let fx = c.ranges.x in let fy = c.ranges.y in
     let k : p.count ≤ length p.order = search rules in
-    let i = simp to_z_of_z at c.loop-i.invariant in
+    let i = simp to_z-of_z at c.loop-i.invariant in
     sym (turned (topmost_or c.loop-i.found p.frames c.args.x c.args.y) p.count c.loop-i.i p.order k (omega arith)) ∙ i

@@ -1,5 +1,5 @@
 use Rattle.std.proofs.Common.{◌≡◌, ◌<◌, true, not, ◌&&◌, ℤ, pos, ◌+ℤ◌, nat_abs, refl, ap, ◌∙◌, arith, w32, SFits, to_z, of_z, rules}
-use Rattle.std.proofs.lemmas.Int.{to_z_of_z, ints}
+use Rattle.std.proofs.lemmas.Int.{to_z-of_z, ints}
 use Rattle.raster.specs.Blt.{inside}
 use Rattle.paper.specs.Layers.{covered}
 use Rattle.plan.specs.Areas.{met}
@@ -14,16 +14,16 @@ next_is : (x : ℤ) → SFits w32 x → nat_abs x < 65536 → to_z w32 (of_z w32
 next_is x f h = omega (arith, ints)
 
 pub overflow-add-x : goal.overflow-add-x
-overflow-add-x c = let fx = c.ranges.x in next_fits c.args.x fx (rw (to_z_of_z w32 c.args.x fx) at (c.if-not-shows.ensures.small refl).0)
+overflow-add-x c = let fx = c.ranges.x in next_fits c.args.x fx (rw (to_z-of_z w32 c.args.x fx) at (c.if-not-shows.ensures.small refl).0)
 
 pub overflow-add-y : goal.overflow-add-y
-overflow-add-y c = let fy = c.ranges.y in next_fits c.args.y fy (rw (to_z_of_z w32 c.args.y fy) at (c.if-not-shows.ensures.small refl).1)
+overflow-add-y c = let fy = c.ranges.y in next_fits c.args.y fy (rw (to_z-of_z w32 c.args.y fy) at (c.if-not-shows.ensures.small refl).1)
 
 pub returns : goal.returns
 returns c =
     let p = c.args.self.now in
     let x = c.args.x in let y = c.args.y in let fx = c.ranges.x in let fy = c.ranges.y in
-    let ex = to_z_of_z w32 x fx in let ey = to_z_of_z w32 y fy in
+    let ex = to_z-of_z w32 x fx in let ey = to_z-of_z w32 y fy in
     let hx = rw ex at (c.if-not-shows.ensures.small refl).0 in let hy = rw ey at (c.if-not-shows.ensures.small refl).1 in
     let nx = next_is x fx hx in let ny = next_is y fy hy in
     let on : true ≡ inside p.screen x y = search (rules, ex, ey) in

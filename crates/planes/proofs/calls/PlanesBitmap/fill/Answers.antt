@@ -1,6 +1,6 @@
 use Rattle.std.proofs.Common.{◌≡◌, ℕ, length, vec_len, refl, ◌∙◌}
 use Rattle.std.proofs.lemmas.Result.{err_from_is_err_and}
-use Rattle.std.proofs.lemmas.Int.{to_z_of_z}
+use Rattle.std.proofs.lemmas.Int.{to_z-of_z}
 use Rattle.raster.specs.Calls.{fill_with}
 use Rattle.raster.specs.Blits.{performed}
 use Rattle.raster.proofs.Called.{refused, blit_painted}
@@ -15,7 +15,7 @@ returns-in-err-blit c =
     let fx = c.ranges.x in
     let fy = c.ranges.y in
     let p = err_from_is_err_and c.from-residual.result c.from-residual.ensures.1 in
-    let r = refused (picture_of a.self.now) (fill_with a.rule a.v a.x a.y a.w a.h) _ (simp to_z_of_z at c.in-err-blit.ensures) in
+    let r = refused (picture_of a.self.now) (fill_with a.rule a.v a.x a.y a.w a.h) _ (simp to_z-of_z at c.in-err-blit.ensures) in
     rw (p.1, p.2) (record { answer = r.answer; after = r.after; rest = planes_same a.self.now; refused = refl })
 
 pub returns : goal.returns
@@ -25,7 +25,7 @@ returns c =
     let fx = c.ranges.x in
     let fy = c.ranges.y in
     let b = c.in-ok-blit.blit in
-    let d = blit_painted (picture_of s) (fill_with a.rule a.v a.x a.y a.w a.h) b (simp to_z_of_z at c.in-ok-blit.ensures) in
+    let d = blit_painted (picture_of s) (fill_with a.rule a.v a.x a.y a.w a.h) b (simp to_z-of_z at c.in-ok-blit.ensures) in
     let long : length c.paint.new.words ≡ vec_len s.words = c.paint.auto.words ∙ c.as-mut-slice.ensures.len in
     record {
       answer = d.answer c.count.result c.count.ensures;

@@ -1,6 +1,6 @@
 use Rattle.std.proofs.Common.{◌≡◌, ℕ, length, nat_abs, vec_len, refl, ◌∙◌, arith}
 use Rattle.std.proofs.lemmas.Result.{err_from_is_err_and}
-use Rattle.std.proofs.lemmas.Int.{to_z_of_z}
+use Rattle.std.proofs.lemmas.Int.{to_z-of_z}
 use Rattle.raster.specs.Calls.{write_at}
 use Rattle.raster.specs.Picture.{with_pixel}
 use Rattle.raster.proofs.Called.{place_refused, write_found}
@@ -15,7 +15,7 @@ returns-in-err-column c =
     let fx = c.ranges.x in
     let fy = c.ranges.y in
     let p = err_from_is_err_and c.from-residual.result c.from-residual.ensures.1 in
-    let r = place_refused (picture_of a.self.now) (write_at a.x a.y a.v) _ (nat_abs a.x, nat_abs a.y) (simp to_z_of_z at c.in-err-column.ensures) in
+    let r = place_refused (picture_of a.self.now) (write_at a.x a.y a.v) _ (nat_abs a.x, nat_abs a.y) (simp to_z-of_z at c.in-err-column.ensures) in
     rw (p.1, p.2) (record { answer = r.answer; after = r.after; rest = planes_same a.self.now; refused = refl })
 
 pub put-requires : goal.put-requires
@@ -23,7 +23,7 @@ put-requires c =
     let a = c.args in
     let fx = c.ranges.x in
     let fy = c.ranges.y in
-    let f = write_found (picture_of a.self.now) a.x a.y a.v c.in-ok-column.column c.in-ok-column.row (simp to_z_of_z at c.in-ok-column.ensures) in
+    let f = write_found (picture_of a.self.now) a.x a.y a.v c.in-ok-column.column c.in-ok-column.row (simp to_z-of_z at c.in-ok-column.ensures) in
     record { carried = (omega arith, omega arith, omega arith, omega arith, omega arith); across = f.across; down = f.down; small = f.small }
 
 pub returns : goal.returns
@@ -34,7 +34,7 @@ returns c =
     let fy = c.ranges.y in
     let column : ℕ = c.in-ok-column.column in
     let row : ℕ = c.in-ok-column.row in
-    let f = write_found (picture_of s) a.x a.y a.v column row (simp to_z_of_z at c.in-ok-column.ensures) in
+    let f = write_found (picture_of s) a.x a.y a.v column row (simp to_z-of_z at c.in-ok-column.ensures) in
     let long : length c.put.new.words ≡ vec_len s.words = c.put.auto.words ∙ c.as-mut-slice.ensures.len in
     record {
       answer = f.answer;

@@ -1,6 +1,6 @@
 use Rattle.std.proofs.Common.{◌≡◌, Some, sym, ap, ◌∙◌}
 use Rattle.std.proofs.lemmas.Result.{err_from_is_err_and}
-use Rattle.std.proofs.lemmas.Int.{to_z_of_z}
+use Rattle.std.proofs.lemmas.Int.{to_z-of_z}
 use Rattle.std.proofs.lemmas.Bool.{lt-ltb, le-ltb}
 use Rattle.raster.specs.declared.fault.Fault.{Fault}
 use Rattle.raster.proofs.Accepts.{fill_no_rule, fill_too_large}
@@ -27,4 +27,4 @@ returns c =
     let fy = c.ranges.y in
     let e = c.in-ok-rule.ensures in
     fill_performs c.in-ok-rule.rule c.clip.result c.clip-2.result a.rule a.v a.x a.y a.w a.h a.size e.1 e.0
-    (sym c.if-excludes.ensures) (simp to_z_of_z at c.clip.ensures) (simp to_z_of_z at c.clip-2.ensures)
+    (sym c.if-excludes.ensures) (simp to_z-of_z at c.clip.ensures) (simp to_z-of_z at c.clip-2.ensures)

@@ -1,6 +1,6 @@
 use Rattle.std.proofs.Common.{◌≡◌, Some, sym, ap, ◌∙◌}
 use Rattle.std.proofs.lemmas.Result.{err_from_is_err_and}
-use Rattle.std.proofs.lemmas.Int.{to_z_of_z}
+use Rattle.std.proofs.lemmas.Int.{to_z-of_z}
 use Rattle.std.proofs.lemmas.Bool.{lt-ltb}
 use Rattle.raster.specs.Blt.{transfer}
 use Rattle.raster.specs.declared.fault.Fault.{Fault}
@@ -26,4 +26,4 @@ returns c =
     let t = transfer a.rule a.sx a.sy a.dx a.dy a.w a.h in
     let e = c.in-ok-checked-rule.ensures in
     scroll_performs c.in-ok-checked-rule.field-0 c.clip.result c.clip-2.result t a.size e.1 e.0
-    (simp to_z_of_z at c.clip.ensures) (simp to_z_of_z at c.clip-2.ensures)
+    (simp to_z-of_z at c.clip.ensures) (simp to_z-of_z at c.clip-2.ensures)

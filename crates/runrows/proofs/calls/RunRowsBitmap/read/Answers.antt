@@ -1,7 +1,7 @@
 use Rattle.std.proofs.Common.{◌≡◌, ℕ, List, nat_abs, sym, ap, ◌∙◌, arith}
 use Rattle.std.proofs.lemmas.Result.{err_from_is_err_and}
-use Rattle.std.proofs.lemmas.Int.{to_z_of_z}
-use Rattle.std.proofs.lemmas.Bool.{cond_true, and_from, lt-ltb}
+use Rattle.std.proofs.lemmas.Int.{to_z-of_z}
+use Rattle.std.proofs.lemmas.Bool.{cond-true, and_from, lt-ltb}
 use Rattle.raster.specs.Calls.{read_at}
 use Rattle.raster.proofs.Called.{place_refused, read_found}
 use Rattle.runrows.specs.Runs.{run_at, row_entries}
@@ -14,14 +14,14 @@ returns-in-err-column c =
     let fx = c.ranges.x in
     let fy = c.ranges.y in
     let p = err_from_is_err_and c.from-residual.result c.from-residual.ensures.1 in
-    rw (p.1, p.2) (place_refused (picture_of a.self.now) (read_at a.x a.y) _ (nat_abs a.x, nat_abs a.y) (simp to_z_of_z at c.in-err-column.ensures)).answer
+    rw (p.1, p.2) (place_refused (picture_of a.self.now) (read_at a.x a.y) _ (nat_abs a.x, nat_abs a.y) (simp to_z-of_z at c.in-err-column.ensures)).answer
 
 pub row-of-row-requires : goal.row-of-row-requires
 row-of-row-requires c =
     let a = c.args in
     let fx = c.ranges.x in
     let fy = c.ranges.y in
-    let f = read_found (picture_of a.self.now) a.x a.y c.in-ok-column.column c.in-ok-column.row (simp to_z_of_z at c.in-ok-column.ensures) in
+    let f = read_found (picture_of a.self.now) a.x a.y c.in-ok-column.column c.in-ok-column.row (simp to_z-of_z at c.in-ok-column.ensures) in
     record { carried = (omega arith, omega arith, omega arith, omega arith, omega arith); down = f.down }
 
 pub returns : goal.returns
@@ -32,7 +32,7 @@ returns c =
     let fy = c.ranges.y in
     let column : ℕ = c.in-ok-column.column in
     let row : ℕ = c.in-ok-column.row in
-    let f = read_found (picture_of a.self.now) a.x a.y column row (simp to_z_of_z at c.in-ok-column.ensures) in
+    let f = read_found (picture_of a.self.now) a.x a.y column row (simp to_z-of_z at c.in-ok-column.ensures) in
     f.answer c.run-pixel.result
     (c.run-pixel.ensures ∙ ap (λ (es : List ℕ). run_at s.depth es column) (c.row-of-row.ensures.value ∙ ap (λ (es : List ℕ). row_entries es s.width row) c.as-slice.ensures.value)
-    ∙ sym (cond_true _ _ _ (and_from _ _ (lt-ltb column s.width f.across) (lt-ltb row s.height f.down))))
+    ∙ sym (cond-true _ _ _ (and_from _ _ (lt-ltb column s.width f.across) (lt-ltb row s.height f.down))))

@@ -1,6 +1,6 @@
 use Rattle.std.proofs.Common.{◌≡◌, ℕ, eqb, length, nat_abs, vec_len, refl, ◌∙◌, arith}
 use Rattle.std.proofs.lemmas.Result.{err_from_is_err_and}
-use Rattle.std.proofs.lemmas.Int.{to_z_of_z}
+use Rattle.std.proofs.lemmas.Int.{to_z-of_z}
 use Rattle.raster.specs.Calls.{write_at}
 use Rattle.raster.specs.Picture.{with_pixel}
 use Rattle.raster.proofs.Called.{place_refused, write_found}
@@ -14,7 +14,7 @@ returns-in-err-column c =
     let fx = c.ranges.x in
     let fy = c.ranges.y in
     let p = err_from_is_err_and c.from-residual.result c.from-residual.ensures.1 in
-    let r = place_refused (picture_of a.self.now) (write_at a.x a.y a.v) _ (nat_abs a.x, nat_abs a.y) (simp to_z_of_z at c.in-err-column.ensures) in
+    let r = place_refused (picture_of a.self.now) (write_at a.x a.y a.v) _ (nat_abs a.x, nat_abs a.y) (simp to_z-of_z at c.in-err-column.ensures) in
     rw (p.1, p.2) (record { answer = r.answer; after = r.after; rest = rows_same a.self.now; refused = refl; entries = untouched a.self.now _ r.rows })
 
 pub put-requires : goal.put-requires
@@ -22,7 +22,7 @@ put-requires c =
     let a = c.args in
     let fx = c.ranges.x in
     let fy = c.ranges.y in
-    let f = write_found (picture_of a.self.now) a.x a.y a.v c.in-ok-column.column c.in-ok-column.row (simp to_z_of_z at c.in-ok-column.ensures) in
+    let f = write_found (picture_of a.self.now) a.x a.y a.v c.in-ok-column.column c.in-ok-column.row (simp to_z-of_z at c.in-ok-column.ensures) in
     record { carried = (omega arith, omega arith, omega arith, omega arith, omega arith); across = f.across; down = f.down; small = f.small }
 
 pub returns : goal.returns
@@ -33,7 +33,7 @@ returns c =
     let fy = c.ranges.y in
     let column : ℕ = c.in-ok-column.column in
     let row : ℕ = c.in-ok-column.row in
-    let f = write_found (picture_of s) a.x a.y a.v column row (simp to_z_of_z at c.in-ok-column.ensures) in
+    let f = write_found (picture_of s) a.x a.y a.v column row (simp to_z-of_z at c.in-ok-column.ensures) in
     let long : length c.put.new.entries ≡ vec_len s.entries = c.put.auto.entries ∙ c.as-mut-slice.ensures.len in
     let kept = refilled_rewritten s.entries c.as-mut-slice.result.now c.put.new.entries s.size c.as-mut-slice.ensures.value long (λ z. eqb z row) _ f.rows c.put.ensures.rest in
     record {
