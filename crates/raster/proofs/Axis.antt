@@ -1,10 +1,9 @@
 -- One axis of a BitBlt, in numbers counted from -32,768.
-use Rattle.std.proofs.Common.{◌≡◌, ℕ, ◌+◌, ◌-◌, ◌<◌, ◌≤◌, Bool, true, false, ◌&&◌, ltb, leb, ℤ, pos, negsuc, ◌+ℤ◌, ◌-ℤ◌, nat_abs, sym, refl, ap, ◌∙◌, arith}
-use lib.Signed.{lt_z, le_z}
+use Rattle.std.proofs.Common.{◌≡◌, ℕ, ◌+◌, ◌<◌, ◌≤◌, ◌&&◌, ltb, leb, ℤ, pos, ◌+ℤ◌, ap, ◌∙◌, arith}
 use Rattle.std.proofs.lemmas.Int.{ints}
 use Rattle.std.proofs.lemmas.Bool.Decides.{nat_tests}
 use Rattle.raster.specs.Blt.{holds, behind}
-use Rattle.raster.specs.Blits.{between, spans, opposite}
+use Rattle.raster.specs.Blits.{spans, opposite}
 use Rattle.raster.specs.Clip.{hits, Clipped}
 use Rattle.raster.specs.declared.span.Span.{Span}
 

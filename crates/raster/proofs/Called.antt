@@ -1,12 +1,11 @@
 -- What a kind of bitmap has to show of each call, from what the checks of raster answer.
-use Rattle.std.proofs.Common.{◌≡◌, ℕ, ◌+◌, ◌*◌, ◌^◌, ◌<◌, Bool, true, false, ◌&&◌, eqb, ltb, leb, ℤ, nat_abs, Some, None, Ok, Err, Option, Result, sym, refl, ap, ◌∙◌, subst, ⊎_elim, arith}
+use Rattle.std.proofs.Common.{◌≡◌, ℕ, ◌+◌, ◌*◌, ◌^◌, ◌<◌, Bool, true, false, ◌&&◌, eqb, ltb, leb, ℤ, nat_abs, Some, Ok, Err, Result, sym, refl, ap, ◌∙◌, ⊎_elim, arith}
 use Rattle.std.proofs.lemmas.Bool.{cases_Bool, leb-false}
 use Rattle.std.proofs.lemmas.Bool.Decides.{nat_tests}
 use Rattle.raster.specs.Picture.{Picture, sizes, with_pixel}
 use Rattle.raster.specs.Calls.{BitmapCall, read_at, write_at, bitmap_fault, bitmap_answer, bitmap_after, row_concerned, any_below, unless}
 use Rattle.raster.specs.Blits.{performed, spans, Performs}
 use Rattle.raster.specs.declared.fault.Fault.{Fault}
-use Rattle.raster.specs.declared.size.Size.{Size}
 use Rattle.raster.specs.declared.blit.Blit.{Blit}
 use Rattle.raster.proofs.Accepts.{some_none, unless_err, unless_ok, read_within, place_within, write_too_large, write_as_read, answer_refused, after_refused, rows_refused, answer_accepted, after_accepted, rows_accepted}
 use Rattle.raster.proofs.Counts.{any_with, any_between, any_same}

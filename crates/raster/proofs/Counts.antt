@@ -1,13 +1,12 @@
 -- A clipped BitBlt: the pixels it concerns, counted, and the picture after it.
-use Rattle.std.proofs.Common.{◌≡◌, ℕ, zero, suc, ◌+◌, ◌-◌, ◌*◌, ◌<◌, ◌≤◌, min, Bool, true, false, cond, ◌&&◌, ◌||◌, ltb, leb, ℤ, pos, nat_abs, sym, refl, ap, ◌∙◌, subst, ⊎_elim, suc-mul, zero-mul, mul-one, arith}
+use Rattle.std.proofs.Common.{◌≡◌, ℕ, zero, suc, ◌+◌, ◌-◌, ◌*◌, ◌≤◌, min, Bool, true, false, cond, ◌&&◌, ltb, sym, refl, ap, ◌∙◌, ⊎_elim, suc-mul, zero-mul, mul-one, arith}
 use Rattle.std.proofs.lemmas.Bool.Decides.{nat_tests}
 use Rattle.std.proofs.lemmas.Bool.{and_parts, cases_Bool}
 use Rattle.raster.specs.Rules.{total, combined}
-use Rattle.raster.specs.Picture.{Picture, sizes, painted}
+use Rattle.raster.specs.Picture.{Picture, sizes}
 use Rattle.raster.specs.Blt.{Transfer, Source, concerned, count, blt, behind}
 use Rattle.raster.specs.Calls.{any_below}
 use Rattle.raster.specs.Blits.{between, spans, opposite, inked, performed}
-use Rattle.raster.specs.declared.span.Span.{Span}
 use Rattle.raster.specs.declared.blit.Blit.{Blit}
 use Rattle.raster.proofs.Digits.{total_alike}
 use Rattle.raster.proofs.Paints.{painted_same}

@@ -1,8 +1,8 @@
 -- Sums of bits, and tests over all numbers below a bound.
-use Rattle.std.proofs.Common.{◌≡◌, ℕ, zero, suc, ◌+◌, ◌-◌, ◌*◌, ◌/◌, ◌%◌, ◌^◌, ◌<◌, ◌≤◌, Bool, true, false, ◌&&◌, eqb, ◌⊎◌, List, [], get_or, sym, refl, ap, ◌∙◌, inl, inr, ⊎_elim, mod-eq_of_lt, mul_assoc, add_comm, pow-suc, add-one, arith, pow_mono}
+use Rattle.std.proofs.Common.{◌≡◌, ℕ, zero, suc, ◌+◌, ◌-◌, ◌*◌, ◌/◌, ◌%◌, ◌^◌, ◌<◌, ◌≤◌, Bool, true, ◌&&◌, eqb, List, [], get_or, sym, refl, ap, ◌∙◌, ⊎_elim, mod-eq_of_lt, mul_assoc, add_comm, pow-suc, add-one, arith, pow_mono}
 use native.Mathlib.Nat.{add-mul-div_right, add-mul-mod_self_right}
-use Rattle.std.proofs.lemmas.Nat.{mod-pow-add, pow_pos, pow-add, mod_below, shr_split, mul-le, div-mul-add, mod-mul-add, shr-shr, mod_low, shr_high, shl-shr, shl_whole}
-use Rattle.std.proofs.lemmas.Bool.{and_parts, eqb-true, cases_lt, cases_order}
+use Rattle.std.proofs.lemmas.Nat.{mod-pow-add, pow_pos, pow-add, mod_below, mul-le, shr_high, shl_whole}
+use Rattle.std.proofs.lemmas.Bool.{and_parts, eqb-true, cases_lt}
 use Rattle.raster.specs.Rules.{total, bit, result, combined}
 
 abbrev pub all_below : (ℕ → Bool) → ℕ → Bool

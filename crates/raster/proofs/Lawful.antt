@@ -1,10 +1,10 @@
 -- The laws over the definitions.
-use Rattle.std.proofs.Common.{◌≡◌, ℕ, zero, suc, ◌+◌, ◌*◌, ◌^◌, ◌<◌, ◌≤◌, Bool, true, false, cond, ◌&&◌, eqb, ltb, ◌⊎◌, ℤ, pos, nat_abs, Some, None, Option, sym, refl, ap, ◌∙◌, subst, ⊎_elim, mod-eq_of_lt, arith}
+use Rattle.std.proofs.Common.{◌≡◌, ℕ, ◌+◌, ◌*◌, ◌^◌, ◌<◌, ◌≤◌, Bool, true, false, cond, ◌&&◌, eqb, ℤ, pos, nat_abs, Some, None, Option, sym, refl, ap, ◌∙◌, ⊎_elim, mod-eq_of_lt, arith}
 use Rattle.std.proofs.lemmas.Int.{ints}
-use Rattle.std.proofs.lemmas.Bool.{cases_Bool, cond-true, cond-false, cond_both, and_parts, both_ways, eqb-true}
+use Rattle.std.proofs.lemmas.Bool.{cases_Bool, cond-false, cond_both, and_parts, eqb-true}
 use Rattle.std.proofs.lemmas.Bool.Decides.{nat_tests}
-use Rattle.raster.specs.Rules.{total, bit, result, combined}
-use Rattle.raster.specs.Picture.{Picture, sizes, Sound, painted, with_pixel}
+use Rattle.raster.specs.Rules.{bit, result, combined}
+use Rattle.raster.specs.Picture.{Picture, sizes, Sound, painted}
 use Rattle.raster.specs.Blt.{Transfer, Source, transfer, holds, in_rectangle, inside, behind, from_picture, everywhere, concerned, count, blt}
 use Rattle.raster.specs.Calls.{BitmapCall, read_at, write_at, fill_with, scroll_by, bitmap_fault, bitmap_change, bitmap_after, concerns, fill_transfer, if_refused, unless}
 use Rattle.raster.specs.Laws.{HasEverywhere, BitmapLaws}
@@ -13,7 +13,7 @@ use Rattle.raster.specs.declared.size.Size.{Size}
 use Rattle.raster.proofs.Accepts.{place_within, answer_refused, after_refused}
 use Rattle.raster.proofs.Called.{write_found}
 use Rattle.raster.proofs.Counts.{total_same}
-use Rattle.raster.proofs.Digits.{all_below, at_below, of_two_bits, total_alike, bit_below, bits_all, combined_below, combined_bit}
+use Rattle.raster.proofs.Digits.{at_below, of_two_bits, total_alike, bit_below, bits_all, combined_below, combined_bit}
 use Rattle.raster.proofs.Paints.{painted_same, painted_at, painted_sizes}
 
 -- rules

@@ -1,10 +1,10 @@
 -- Painted pictures: when two are equal, and one more turn of a painting.
-use Rattle.std.proofs.Common.{◌≡◌, ℕ, ◌+◌, ◌-◌, ◌<◌, ◌≤◌, Bool, true, false, cond, ◌&&◌, ◌||◌, eqb, ltb, leb, sym, refl, ap, ◌∙◌, subst, arith}
+use Rattle.std.proofs.Common.{◌≡◌, ℕ, ◌+◌, ◌-◌, ◌<◌, Bool, true, false, cond, ◌&&◌, ◌||◌, eqb, ltb, sym, refl, ap, ◌∙◌, subst, arith}
 use Rattle.std.proofs.lemmas.Bool.Decides.{nat_tests}
 use Rattle.std.proofs.lemmas.Bool.{and_parts, and_left, and_right, eqb-true, cond-false}
 use Rattle.raster.specs.Rules.{combined}
 use Rattle.raster.specs.Picture.{Picture, sizes, painted, with_pixel}
-use Rattle.raster.specs.Blits.{between, spans, opposite, turn, inked, mixed, performed, Below}
+use Rattle.raster.specs.Blits.{between, spans, opposite, turn, inked, mixed, performed}
 use Rattle.raster.specs.declared.ink.Ink.{Ink}
 use Rattle.raster.specs.declared.ink.Ink.TheVariants.{Value, Itself}
 use Rattle.raster.specs.declared.size.Size.{Size}

@@ -1,5 +1,5 @@
 -- A call of BitBlt that is checked and clipped: what is left to paint, and that painting it is the call.
-use Rattle.std.specs.Prelude.{◌≡◌, ℕ, ◌+◌, ◌-◌, ◌*◌, ◌<◌, ◌≤◌, Bool, cond, ◌&&◌, Some, None, Ok, Err, Result, nat_le, nat_lt}
+use Rattle.std.specs.Prelude.{◌≡◌, ℕ, ◌+◌, ◌-◌, ◌*◌, ◌≤◌, Bool, cond, ◌&&◌, Some, None, Ok, Err, Result, nat_le, nat_lt}
 use Rattle.raster.specs.Rules.{combined}
 use Rattle.raster.specs.Picture.{Picture, sizes, painted}
 use Rattle.raster.specs.Calls.{BitmapCall, bitmap_fault, bitmap_value, bitmap_change, row_concerned}

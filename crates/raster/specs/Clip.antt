@@ -1,7 +1,7 @@
 -- One axis of a BitBlt: which coordinates it concerns, and how they are cut to the bitmaps.
-use Rattle.std.specs.Prelude.{◌≡◌, ℕ, ◌+◌, ◌-◌, ◌≤◌, Bool, true, ◌&&◌, ℤ, pos}
+use Rattle.std.specs.Prelude.{◌≡◌, ℕ, ◌+◌, ◌≤◌, Bool, true, ◌&&◌, ℤ, pos}
 use Rattle.raster.specs.Blt.{holds, behind}
-use Rattle.raster.specs.Blits.{Below, spans, opposite}
+use Rattle.raster.specs.Blits.{spans, opposite}
 use Rattle.raster.specs.declared.span.Span.{Span}
 
 -- x lies among the n coordinates from d and below dest, and its source coordinate, counted from s, lies below source.

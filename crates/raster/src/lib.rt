@@ -1,4 +1,6 @@
 //! Bitmaps: the sixteen rules, BitBlt, and what every kind of bitmap offers.
+#![tactic(auto)]
+
 mod bitmap;
 mod blit;
 mod fault;

@@ -15,14 +15,14 @@ abbrev Step : ℕ → ℕ → ℕ → ℕ → ℕ → ℕ → Type 0
 Step rule s d j all r =
     (all + (r * 2 ^ j) % 256 ≡ total (λ k. bits rule s d k * 2 ^ k) (j + 1)) × (all + (r * 2 ^ j) % 256 < 256)
 
-step : (c : goal.After-result-bit) → Step c.args.self.number c.args.s c.args.d c.loop-j.j c.loop-j.all c.result-bit.result
+step : (c : goal.After-result_bit) → Step c.args.self.number c.args.s c.args.d c.loop-j.j c.loop-j.all c.result_bit.result
 step c =
     let rule = c.args.self.number in
     total_more (bits rule c.args.s c.args.d) (λ k. bit_below rule _) c.loop-j.j c.loop-j.all
-    c.result-bit.result (omega arith) c.loop-j.invariant (here rule c.args.s c.args.d c.loop-j.j c.result-bit.result c.result-bit.ensures)
+    c.result_bit.result (omega arith) c.loop-j.invariant (here rule c.args.s c.args.d c.loop-j.j c.result_bit.result c.result_bit.ensures)
 
-pub overflow-add-all : goal.overflow-add-all
-overflow-add-all c = omega (arith, step c)
+pub overflow_add-all : goal.overflow_add-all
+overflow_add-all c = omega (arith, step c)
 
 pub loop-j-preserved : goal.loop-j-preserved
 loop-j-preserved c = (step c).0
