@@ -13,9 +13,8 @@ use Rattle.paper.specs.Layers.{Layer, new_desk, blank}
 use Rattle.paper.specs.Slots.{slots_of, hidden_count}
 use Rattle.paper.specs.Desk.{slots_answer}
 use Rattle.paper.specs.Run.{State, new_state}
-use Rattle.plan.specs.Plans.{listed}
-use Rattle.slots.specs.Tables.{has_slot}
-use Rattle.slots.specs.Entries.{passing}
+use Rattle.plan.specs.Plans.{listed, has_slot}
+use Rattle.plan.specs.Allots.{passing}
 use Rattle.plan.specs.declared.frame.Frame.{Frame}
 use Rattle.hold.specs.Held.{held, layers_with, paper_of}
 use Rattle.moving.specs.Phases.{on_screen}

@@ -10,14 +10,13 @@ use Rattle.paper.specs.Desk.{move_layer, no_client, not_open, because, change, f
 use Rattle.paper.specs.Run.{Does}
 use Rattle.plan.specs.declared.frame.Frame.{Frame}
 use Rattle.plan.specs.declared.plan.Plan.{Plan}
-use Rattle.slots.specs.declared.slots.Slots.{Slots}
+use Rattle.plan.specs.declared.slots.Slots.{Slots}
 use Rattle.plan.specs.Frames.{has}
 use Rattle.plan.specs.Plans.{listed, layers_in, frame_in, needs}
 use Rattle.plan.specs.Arranged.{Arranged, OtherFrames, cornered}
-use Rattle.slots.specs.Entries.{passing}
-use Rattle.slots.specs.Allots.{Supplied}
-use Rattle.slots.specs.Laws.{AllStillOpen}
-use Rattle.slots.proofs.Lawful.{patch_laws_lem}
+use Rattle.plan.specs.Allots.{passing, Supplied}
+use Rattle.plan.specs.Laws.{AllStillOpen}
+use Rattle.plan.proofs.Lawful.{plan_laws_lem}
 use Rattle.hold.specs.Held.{held, paper_of}
 use Rattle.moving.specs.Phases.{on_screen, repainted}
 use Rattle.moving.specs.Moves.{desk_with}
@@ -71,7 +70,7 @@ module _ (s m : Picture) (b : Book) (c : ℕ) (x y : ℤ) where
     move_few f few e =
         refused_does s m b (move_layer c x y) f
         (last_check ∙ too_few s m b listed_now.0 q (held s m b.plan b.slots) (move_layer c x y) (eqb c) c (moved_leads s m b.plan q b.slots c x y a.layers) a.screen
-        (patch_laws_lem.moved b.plan q c 0 still) few ∙ ap Some (sym e))
+        (plan_laws_lem.moved b.plan q c 0 still) few ∙ ap Some (sym e))
 
     pub move_does : (s' m' : Picture) (b' : Book) (t' : Slots) → Sound s → passing (needs b.plan q c) ≤ b.slots.places → Supplied b.slots (needs b.plan q c) t'
         → Settled q t' b' → Carries b.plan q t' (frame_in b.plan c) (frame_in q c) s m s' m' → Does (state_on s m b) (move_layer c x y) (Ok 0) (state_on s' m' b')
@@ -85,5 +84,5 @@ module _ (s m : Picture) (b : Book) (c : ℕ) (x y : ℤ) where
         (begins s m b listed_now.0 q t' b'.slots sound way) listed_now.1 a others (own listed_now.1)
         (moving_laws_lem.all_supplied p q b.slots t' c supplied)
         stowed.1 stowed.2 refl (moves.repaints (repaint_fits s m m' p q t' moves.store_size a.screen fit)))
-        (last_check ∙ enough s m b listed_now.0 q (held s m p b.slots) (move_layer c x y) (eqb c) c (moved_leads s m p q b.slots c x y a.layers) a.screen (patch_laws_lem.moved p q c 0 still) many)
+        (last_check ∙ enough s m b listed_now.0 q (held s m p b.slots) (move_layer c x y) (eqb c) c (moved_leads s m p q b.slots c x y a.layers) a.screen (plan_laws_lem.moved p q c 0 still) many)
         refl

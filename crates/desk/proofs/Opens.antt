@@ -1,5 +1,5 @@
 -- Opening a layer.
-use Rattle.std.proofs.Common.{◌≡◌, ℕ, ◌+◌, ◌*◌, ◌/◌, ◌%◌, ◌<◌, ◌≤◌, min, true, false, not, ◌&&◌, ◌||◌, eqb, ltb, [], ◌∷◌, ◌++◌, Some, None, Ok, Err, Result, sym, refl, ap, ◌∙◌, subst, inr, arith}
+use Rattle.std.proofs.Common.{◌≡◌, ℕ, ◌<◌, ◌≤◌, true, false, not, ◌&&◌, ◌||◌, eqb, ltb, [], ◌∷◌, ◌++◌, Some, None, Ok, Err, Result, sym, refl, ap, ◌∙◌, subst, arith}
 use Rattle.std.proofs.lemmas.Bool.{or_left, and_from, both_ways}
 use Rattle.std.proofs.lemmas.Bool.Decides.{nat_tests}
 use Rattle.raster.specs.Picture.{Picture, sizes, Sound}
@@ -15,20 +15,15 @@ use Rattle.paper.specs.Desk.{open_layer, no_client, already_open, beyond_size, b
 use Rattle.paper.specs.Run.{State, Does}
 use Rattle.plan.specs.declared.frame.Frame.{Frame}
 use Rattle.plan.specs.declared.plan.Plan.{Plan}
-use Rattle.slots.specs.declared.slots.Slots.{Slots}
+use Rattle.plan.specs.declared.slots.Slots.{Slots}
 use Rattle.plan.specs.Frames.{has}
 use Rattle.plan.specs.Plans.{listed, layers_in, outline, frame_in, needs}
 use Rattle.plan.specs.Arranged.{Arranged, OtherFrames, can_open}
-use Rattle.slots.specs.Entries.{passing}
-use Rattle.slots.specs.Allots.{Supplied}
-use Rattle.slots.specs.Changes.{Concerns}
-use Rattle.slots.specs.Laws.{AllStillOpen}
-use Rattle.slots.proofs.Allotted.{needs_before}
-use Rattle.slots.proofs.Changes.{hidden_none}
-use Rattle.slots.proofs.Concerned.{open_concerns}
-use Rattle.slots.proofs.Lawful.{patch_laws_lem}
+use Rattle.plan.specs.Allots.{passing, Supplied}
+use Rattle.plan.specs.Laws.{AllStillOpen}
+use Rattle.plan.proofs.Lawful.{plan_laws_lem}
 use Rattle.hold.specs.Held.{held, paper_of}
-use Rattle.moving.specs.Phases.{on_screen, Stowed, RowsAlone, Blanked}
+use Rattle.moving.specs.Phases.{on_screen, Stowed, Blanked}
 use Rattle.moving.specs.Moves.{desk_with, fresh}
 use Rattle.moving.proofs.Orders.{opened_paper}
 use Rattle.moving.proofs.Blanks.{filled_zero}
@@ -108,22 +103,6 @@ module _ (s m : Picture) (b : Book) (c : ℕ) (f : Frame) where
           let few = too_few_slots (λ _. false) (on_pictures s m a) (open_layer c f.x f.y f.w f.h) in
           first_pass (no_client c ∷ already_open c (on_pictures s m a) ∷ beyond_size c f.w f.h ∷ []) (few ∷ []) passes ∙ one_check few
 
-      pub concerns : Concerns a.plan q c
-      concerns = open_concerns a.plan q c f none arranged others
-
-      -- only the rows of patches that the new layer has can have slots
-      pub rows_alone : (t' : Slots) (rows : ℕ) → Supplied a.slots (needs a.plan q 255) t' → frame_in q c ≡ f → rows ≡ f.h / 16 + min 1 (f.h % 16) → RowsAlone t' c rows
-      rows_alone t' rows supplied own e k from below =
-          let number : ℕ = 300 * c + k in
-          let c8 = low in
-          let client : number / 300 ≡ c = omega arith in
-          let row : number % 300 / 20 ≡ k / 20 = omega arith in
-          let n2400 : number < 2400 = omega arith in
-          let out : f.h ≤ 16 * (number % 300 / 20) = omega arith in
-          let after = hidden_none q number (λ _. inr (subst (λ (z : Frame). z.h ≤ 16 * (number % 300 / 20)) (sym (ap (frame_in q) client ∙ own)) out)) in
-          let before = hidden_none a.plan number (λ h. absurd (both_ways (has c (listed a.plan)) none (ap (λ d. has d (listed a.plan)) (sym client) ∙ h))) in
-          supplied.has number n2400 ∙ needs_before a.plan q number n2400 (λ h. absurd (both_ways _ after h)) ∙ before
-
       still : AllStillOpen a.plan q
       still = opened_still a.plan q c none arranged.clients others
 
@@ -133,7 +112,7 @@ module _ (s m : Picture) (b : Book) (c : ℕ) (f : Frame) where
           refused_does s m b call fault
           (ap (λ (d : paper.Desk). fault_of d call) (sym same)
           ∙ last_check ∙ too_few s m a fits q (fresh c (held s m a.plan a.slots)) call (λ _. false) 255 (opened_leads s m a.plan q a.slots c f none arranged.layers) arranged.screen
-          (patch_laws_lem.unmoved a.plan q 0 still) few ∙ ap Some (sym e))
+          (plan_laws_lem.unmoved a.plan q 0 still) few ∙ ap Some (sym e))
 
       pub open_does : (m₁ s' m' : Picture) (b' : Book) (t' : Slots) → Sound s → passing (needs a.plan q 255) ≤ a.slots.places → Supplied a.slots (needs a.plan q 255) t' → frame_in q c ≡ f
           → sizes s' ≡ sizes s → sizes m' ≡ sizes m → Settled q t' b' → Stowed s a.plan t' (on_screen a.plan.screen f) m m₁ → Blanked t' c m₁ m'
@@ -145,5 +124,5 @@ module _ (s m : Picture) (b : Book) (c : ℕ) (f : Frame) where
           subst (λ (z : State). Does z call (Ok 0) (state_on s' m' b')) (same_state s m a b same)
           (settles s m a fits s' m' b' q t' call es em arranged.screen supplied.places settled
           (moving_laws_lem.opened s m m₁ s' m' p q a.slots t' b'.slots c f (begins s m a fits q t' b'.slots sound way) can arranged others own stowed blanked zeros)
-          (last_check ∙ enough s m a fits q (fresh c (held s m p a.slots)) call (λ _. false) 255 (opened_leads s m p q a.slots c f none arranged.layers) arranged.screen (patch_laws_lem.unmoved p q 0 still) many)
+          (last_check ∙ enough s m a fits q (fresh c (held s m p a.slots)) call (λ _. false) 255 (opened_leads s m p q a.slots c f none arranged.layers) arranged.screen (plan_laws_lem.unmoved p q 0 still) many)
           refl)

@@ -10,14 +10,13 @@ use Rattle.paper.specs.Desk.{Call, close_layer, client_of, no_client, not_open, 
 use Rattle.paper.specs.Run.{Does}
 use Rattle.plan.specs.declared.frame.Frame.{Frame}
 use Rattle.plan.specs.declared.plan.Plan.{Plan}
-use Rattle.slots.specs.declared.slots.Slots.{Slots}
+use Rattle.plan.specs.declared.slots.Slots.{Slots}
 use Rattle.plan.specs.Frames.{has}
 use Rattle.plan.specs.Plans.{listed, layers_in, frame_in, needs}
 use Rattle.plan.specs.Arranged.{Arranged, SameFrames}
-use Rattle.slots.specs.Entries.{passing}
-use Rattle.slots.specs.Allots.{Supplied}
-use Rattle.slots.specs.Laws.{AllStillOpen}
-use Rattle.slots.proofs.Lawful.{patch_laws_lem}
+use Rattle.plan.specs.Allots.{passing, Supplied}
+use Rattle.plan.specs.Laws.{AllStillOpen}
+use Rattle.plan.proofs.Lawful.{plan_laws_lem}
 use Rattle.hold.specs.Held.{held, paper_of}
 use Rattle.moving.specs.Phases as phases
 use Rattle.moving.specs.Phases.{on_screen, Stowed, repainted}
@@ -91,7 +90,7 @@ module _ (s m : Picture) (b : Book) (c : ℕ) where
       order_few f few e =
           refused_does s m b call f
           (last_check ∙ too_few s m b listed_now.0 q (held s m b.plan b.slots) call (λ _. false) 255 (order_leads b.plan q c s m b.slots r) (order_screen b.plan q c r)
-          (patch_laws_lem.unmoved b.plan q 0 (order_still b.plan q c r)) few
+          (plan_laws_lem.unmoved b.plan q 0 (order_still b.plan q c r)) few
           ∙ ap Some (ap (because TooFewSlots) (order_client b.plan q c r) ∙ sym e))
 
       pub order_does : (s' m' : Picture) (b' : Book) (t' : Slots) → Sound s → passing (needs b.plan q 255) ≤ b.slots.places → Supplied b.slots (needs b.plan q 255) t'
@@ -104,7 +103,7 @@ module _ (s m : Picture) (b : Book) (c : ℕ) where
           (order_leaves p q c s m s' m' b.slots t' b'.slots (begins s m b listed_now.0 q t' b'.slots sound way) listed_now.1 r
           (moves.stowed fit) (moves.repaints (repaint_fits s m m' p q t' moves.store_size (order_screen p q c r) fit)))
           (last_check ∙ enough s m b listed_now.0 q (held s m p b.slots) call (λ _. false) 255 (order_leads p q c s m b.slots r) (order_screen p q c r)
-          (patch_laws_lem.unmoved p q 0 (order_still p q c r)) many)
+          (plan_laws_lem.unmoved p q 0 (order_still p q c r)) many)
           (order_value p q c (on_pictures s m b) r)
 
 -- ── Closing ──

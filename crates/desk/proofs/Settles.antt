@@ -12,10 +12,10 @@ use Rattle.paper.specs.Desk.{Call, client_of, because, change, accepted_value, f
 use Rattle.paper.specs.Run.{Becomes, Does}
 use Rattle.paper.proofs.View.{answer_accepted, after_accepted}
 use Rattle.plan.specs.declared.plan.Plan.{Plan}
-use Rattle.slots.specs.declared.slots.Slots.{Slots}
+use Rattle.plan.specs.declared.slots.Slots.{Slots}
 use Rattle.plan.specs.Plans.{listed, needs}
-use Rattle.slots.specs.Entries.{passing}
-use Rattle.slots.specs.Laws.{desk_in}
+use Rattle.plan.specs.Allots.{passing}
+use Rattle.plan.specs.Laws.{desk_in}
 use Rattle.hold.specs.Held.{Fitting, Pixels, paper_of}
 use Rattle.hold.proofs.Asks.{outlines_with, needed_same, paper_outlines}
 use Rattle.moving.specs.Phases as phases

@@ -1,5 +1,5 @@
 -- How a desk goes over to another arrangement.
-use Rattle.std.specs.Prelude.{◌≡◌, ℕ, ◌<◌, min, Bool, cond, [], ◌++◌, Ok, Err, Result}
+use Rattle.std.specs.Prelude.{◌≡◌, ℕ, ◌<◌, min, true, [], ◌++◌, Ok, Err, Result}
 use Rattle.raster.specs.Picture.{Picture, sizes}
 use Rattle.raster.specs.declared.size.Size.{Size}
 use Rattle.paper.specs.declared.DeskFault.{DeskFault}
@@ -7,13 +7,11 @@ use Rattle.paper.specs.Layers.{only, without}
 use Rattle.paper.specs.Desk.{Call, raise_layer, lower_layer, Answer}
 use Rattle.plan.specs.declared.frame.Frame.{Frame}
 use Rattle.plan.specs.declared.plan.Plan.{Plan}
-use Rattle.slots.specs.declared.slots.Slots.{Slots}
+use Rattle.plan.specs.declared.slots.Slots.{Slots}
 use Rattle.plan.specs.Frames.{has}
-use Rattle.plan.specs.Plans.{listed, layers_in, hidden_patch, needs}
-use Rattle.slots.specs.Tables.{has_slot}
+use Rattle.plan.specs.Plans.{listed, layers_in, hidden_patch, has_slot}
 use Rattle.plan.specs.Arranged.{Arranged, SameFrames}
-use Rattle.slots.specs.Allots.{Retained}
-use Rattle.slots.specs.Changes.{Concerns}
+use Rattle.plan.specs.Allots.{Retained}
 use Rattle.moving.specs.Phases.{Fitting, on_screen, Stowed, repainted}
 use Rattle.desk.specs.declared.book.Book.{Book}
 
@@ -22,11 +20,9 @@ abbrev pub done : Result (Unit {0}) DeskFault → Answer
 done (Ok u) = Ok 0
 done (Err f) = Err f
 
--- A table serves a change of a client's layer: the patches that need a slot while it lasts have one, and no others.
-pub record Serves (p q : Plan) (c : ℕ) (t : Slots) : Type 0 where
-  pub concerns : Concerns p q c
-  pub whole : Bool
-  pub each : (k : ℕ) → k < 2400 → has_slot t k ≡ needs p q (cond whole c 255) k
+-- Each patch that is hidden in an arrangement has a slot.
+abbrev pub Serves : Plan → Slots → Type 0
+Serves q t = (k : ℕ) → k < 2400 → hidden_patch q k ≡ true → has_slot t k ≡ true
 
 -- A book of the arrangement q: of the slots in the table t it has those of the hidden patches.
 pub record Settled (q : Plan) (t : Slots) (b : Book) : Type 0 where

@@ -1,10 +1,8 @@
 //! What a desk notes of its layers.
 ghost use Rattle.std.specs.Prelude.{◌≡◌, ℕ, ◌<◌};
-ghost use Rattle.plan.specs.Plans.{hidden_patch};
-ghost use Rattle.slots.specs.Tables.{has_slot};
+ghost use Rattle.plan.specs.Plans.{has_slot, hidden_patch};
 
-use plan::Plan;
-use slots::Slots;
+use plan::{Plan, Slots};
 
 /// The arrangement of the layers, and the slot of each hidden patch.
 #[derive(Clone, Copy)]

@@ -3,33 +3,30 @@ ghost use Rattle.std.specs.Prelude.{◌≡◌};
 ghost use Rattle.raster.specs.Calls.{Unaltered};
 ghost use Rattle.paper.specs.Desk.{move_layer};
 ghost use Rattle.paper.specs.Run.{Does};
-ghost use Rattle.plan.specs.Plans.{frame_in};
 ghost use Rattle.desk.specs.Desks.{state_of, Keeps};
 ghost use Rattle.desk.specs.Moves.{done, Serves, Settled, Carries};
 
+use crate::book::Book;
 use crate::desk::Desk;
 use moving::{repaint, stow};
 use paper::DeskFault;
-use plan::Plan;
+use plan::{Frame, Plan, Slots};
 use raster::Bitmap;
-use slots::Slots;
 
 impl<S: Bitmap, T: Bitmap> Desk<S, T> {
-    /// Goes over to an arrangement in which the client's layer has left one frame for another: what shows in both is stowed, and both
-    /// are repainted.
-    fn carry(&mut self, c: u8, after: Plan, slots: &Slots)
-        requires { Serves self.old.book.plan after c slots.now }
+    /// Goes over to an arrangement in which a layer has left one area for another: what shows in both is stowed, and both are
+    /// repainted.
+    fn carry(&mut self, after: Plan, slots: &Slots, old: Frame, new: Frame)
+        requires { Serves after slots.now }
         ensures book { Settled after slots.now self.new.book }
-        ensures pixels { Carries self.old.book.plan after slots.now (frame_in self.old.book.plan c) (frame_in after c) (S.Bitmap.picture self.old.screen) (T.Bitmap.picture self.old.store) (S.Bitmap.picture self.new.screen) (T.Bitmap.picture self.new.store) }
+        ensures pixels { Carries self.old.book.plan after slots.now old new (S.Bitmap.picture self.old.screen) (T.Bitmap.picture self.old.store) (S.Bitmap.picture self.new.screen) (T.Bitmap.picture self.new.store) }
         ensures rest { Keeps S.Bitmap T.Bitmap self.old self.new }
     {
-        let old = self.book.plan.frame(c);
-        let new = after.frame(c);
         stow(&self.screen, &mut self.store, &self.book.plan, slots, old);
         stow(&self.screen, &mut self.store, &self.book.plan, slots, new);
         repaint(&mut self.screen, &self.store, &after, slots, old);
         repaint(&mut self.screen, &self.store, &after, slots, new);
-        self.book = self.book.settled(c, after, slots);
+        self.book = Book::settled(after, slots);
     }
 
     /// Moves the client's layer to another corner, on the screen or off it.
@@ -40,8 +37,10 @@ impl<S: Bitmap, T: Bitmap> Desk<S, T> {
     {
         self.check_open(c)?;
         let after = self.book.plan.moved(c, x, y);
-        let slots = self.book.slots_for(c, &after, true)?;
-        self.carry(c, after, &slots);
+        let slots = self.book.slots_for(c, &after, c)?;
+        let old = self.book.plan.frame(c);
+        let new = after.frame(c);
+        self.carry(after, &slots, old, new);
         Ok(())
     }
 }

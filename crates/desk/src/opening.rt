@@ -14,9 +14,8 @@ use crate::book::Book;
 use crate::desk::Desk;
 use moving::{blank, stow};
 use paper::DeskFault;
-use plan::{Frame, Plan};
+use plan::{Frame, Plan, Slots};
 use raster::{Bitmap, Refusal, Size};
-use slots::Slots;
 
 impl Book {
     /// The book of a new desk, with a screen of a size and a number of slots.
@@ -105,11 +104,11 @@ impl<S: Bitmap, T: Bitmap> Desk<S, T> {
         let book = self.current();
         let frame = Frame { x, y, w, h };
         let after = book.plan.opened(c, frame);
-        let slots = book.slots_for(c, &after, false)?;
+        let slots = book.slots_for(c, &after, 255)?;
         stow(&self.screen, &mut self.store, &book.plan, &slots, frame);
-        blank(&mut self.store, &slots, c, h.div_ceil(16));
+        blank(&mut self.store, &slots, c);
         let _ = self.screen.fill(3, 0, x, y, w, h);
-        self.book = book.settled(c, after, &slots);
+        self.book = Book::settled(after, &slots);
         Ok(())
     }
 }

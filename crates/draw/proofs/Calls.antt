@@ -6,7 +6,7 @@ use Rattle.raster.specs.Blits.{Below, Performs, performed}
 use Rattle.raster.specs.declared.blit.Blit.{Blit}
 use Rattle.raster.specs.declared.size.Size.{Size}
 use Rattle.plan.specs.declared.plan.Plan.{Plan}
-use Rattle.slots.specs.declared.slots.Slots.{Slots}
+use Rattle.plan.specs.declared.slots.Slots.{Slots}
 use Rattle.plan.specs.Frames.{has}
 use Rattle.plan.specs.Plans.{listed, frame_in}
 use Rattle.hold.specs.Held.{layer_held, Drawn}

@@ -7,7 +7,7 @@ use Rattle.raster.specs.declared.rule.Rule.{Rule}
 use Rattle.raster.specs.declared.size.Size.{Size}
 use Rattle.raster.specs.declared.span.Span.{Span}
 use Rattle.plan.specs.declared.plan.Plan.{Plan}
-use Rattle.slots.specs.declared.slots.Slots.{Slots}
+use Rattle.plan.specs.declared.slots.Slots.{Slots}
 use Rattle.plan.specs.Frames.{has}
 use Rattle.plan.specs.Plans.{listed}
 use Rattle.hold.specs.Held.{layer_held, Fitting, OwnPixel, Drawn}

@@ -8,7 +8,7 @@ use Rattle.raster.specs.declared.size.Size.{Size}
 use Rattle.raster.proofs.Digits.{combined_below}
 use Rattle.raster.proofs.Paints.{turn_below, row_painted, row_so_far, row_none, row_all, row_more, rows_so_far, rows_none, rows_all, rows_more}
 use Rattle.plan.specs.declared.plan.Plan.{Plan}
-use Rattle.slots.specs.declared.slots.Slots.{Slots}
+use Rattle.plan.specs.declared.slots.Slots.{Slots}
 use Rattle.plan.specs.Frames.{has}
 use Rattle.plan.specs.Plans.{listed}
 use Rattle.hold.specs.Held.{held, layer_held, Fitting, OwnPixel, Drawn, PixelPut}

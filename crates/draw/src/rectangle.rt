@@ -8,9 +8,8 @@ ghost use Rattle.draw.specs.Areas.{BlitWithin, RowWithin};
 
 use crate::touch::touch;
 use hold::read_pixel;
-use plan::Plan;
+use plan::{Plan, Slots};
 use raster::{Bitmap, Blit, Ink};
-use slots::Slots;
 
 /// The source pixel of an ink at (x, y) of a client's layer.
 fn sample<S: Bitmap, T: Bitmap>(

@@ -7,9 +7,8 @@ ghost use Rattle.draw.specs.Stamps.{stamped_row, RowInside, Stamps};
 
 use crate::touch::touch;
 use hold::pixel;
-use plan::Plan;
+use plan::{Plan, Slots};
 use raster::{Bitmap, Rule, Span};
-use slots::Slots;
 
 /// Stamps the columns in the row `y` of a client's layer, from the row `sy` of another bitmap.
 fn stamp_row<S: Bitmap, T: Bitmap, B: Bitmap>(

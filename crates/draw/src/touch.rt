@@ -5,9 +5,8 @@ ghost use Rattle.hold.specs.Bitmaps.{Draws};
 ghost use Rattle.draw.specs.Touches.{touched};
 
 use hold::{put_pixel, read_pixel};
-use plan::Plan;
+use plan::{Plan, Slots};
 use raster::{Bitmap, Rule};
-use slots::Slots;
 
 /// Combines the pixel (x, y) of a client's layer with a source pixel.
 pub(crate) fn touch<S: Bitmap, T: Bitmap>(

@@ -10,7 +10,7 @@ use Rattle.paper.specs.Run.{Alike, none, more}
 use Rattle.paper.proofs.Layers.{paint_other}
 use Rattle.paper.proofs.Outline.{SameOutline, covers_same, hidden_in_same, hidden_count_same}
 use Rattle.plan.specs.declared.plan.Plan.{Plan}
-use Rattle.slots.specs.declared.slots.Slots.{Slots}
+use Rattle.plan.specs.declared.slots.Slots.{Slots}
 use Rattle.plan.specs.Frames.{has}
 use Rattle.plan.specs.Plans.{outlines, listed, layers_in}
 use Rattle.hold.specs.Held.{Pixels, layers_with, held, paper_of, layer_held, Fitting, Drawn}

@@ -3,9 +3,8 @@ use Rattle.std.proofs.Common.{◌≡◌, ℕ, ◌+◌, ◌*◌, ◌/◌, ◌<◌
 use Rattle.std.proofs.lemmas.Bool.{and_from, lt-ltb, cond-true, cond-false}
 use Rattle.raster.specs.Picture.{Picture}
 use Rattle.plan.specs.declared.plan.Plan.{Plan}
-use Rattle.slots.specs.declared.slots.Slots.{Slots}
-use Rattle.plan.specs.Plans.{frame_in, seen, patch_at}
-use Rattle.slots.specs.Tables.{slot_of, has_slot}
+use Rattle.plan.specs.declared.slots.Slots.{Slots}
+use Rattle.plan.specs.Plans.{frame_in, seen, patch_at, slot_of, has_slot}
 use Rattle.hold.specs.declared.spot.Spot.{Spot}
 use Rattle.hold.specs.declared.spot.Spot.TheVariants.{Screen}
 use Rattle.hold.specs.Spots.{own_slot, screen_spot, store_spot, spot_of}

@@ -7,7 +7,7 @@ use Rattle.paper.specs.Layers.{Layer, covers, covered, pixels_of, or_blank, alte
 use Rattle.paper.specs.Slots.{slots_of}
 use Rattle.paper.specs.Desk.{repaint}
 use Rattle.plan.specs.declared.plan.Plan.{Plan}
-use Rattle.slots.specs.declared.slots.Slots.{Slots}
+use Rattle.plan.specs.declared.slots.Slots.{Slots}
 use Rattle.plan.specs.Frames.{has, distinct}
 use Rattle.plan.specs.Plans.{outline, outlines, listed, layers_in, frame_in}
 use Rattle.hold.specs.Held.{Pixels, layer_with, layers_with, held, paper_of, layer_held, Holds, OwnPixel}

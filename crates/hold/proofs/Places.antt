@@ -13,10 +13,9 @@ use Rattle.paper.specs.Slots.{obscured, hidden, hidden_in, slots_of}
 use Rattle.paper.proofs.Hidden.{covers_pixel}
 use Rattle.plan.specs.declared.frame.Frame.{Frame}
 use Rattle.plan.specs.declared.plan.Plan.{Plan}
-use Rattle.slots.specs.declared.slots.Slots.{Slots}
+use Rattle.plan.specs.declared.slots.Slots.{Slots}
 use Rattle.plan.specs.Frames.{no_frame, has}
-use Rattle.plan.specs.Plans.{outline, outlines, listed, layers_in, frame_in, above, seen, patch_at, hidden_patch}
-use Rattle.slots.specs.Tables.{Fits}
+use Rattle.plan.specs.Plans.{outline, outlines, listed, layers_in, frame_in, above, seen, patch_at, hidden_patch, Fits}
 use Rattle.plan.proofs.Sifts.{open_low}
 use Rattle.plan.proofs.Patches.{any_of, hidden_open}
 use Rattle.hold.specs.declared.spot.Spot.{Spot}

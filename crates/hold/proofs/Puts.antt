@@ -6,7 +6,7 @@ use Rattle.raster.specs.declared.size.Size.{Size}
 use Rattle.raster.proofs.Paints.{painted_sizes, painted_at}
 use Rattle.paper.specs.Slots.{slots_of}
 use Rattle.plan.specs.declared.plan.Plan.{Plan}
-use Rattle.slots.specs.declared.slots.Slots.{Slots}
+use Rattle.plan.specs.declared.slots.Slots.{Slots}
 use Rattle.hold.specs.declared.spot.Spot.{Spot}
 use Rattle.hold.specs.declared.spot.Spot.TheVariants.{Screen, Store}
 use Rattle.hold.specs.Spots.{spot_of, look, screen_with, store_with}

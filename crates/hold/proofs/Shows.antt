@@ -11,7 +11,7 @@ use Rattle.paper.specs.Layers.{Layer, or_else, covers, covered, topmost, pixel_o
 use Rattle.paper.proofs.Screen.{topmost_tells, none_topmost}
 use Rattle.plan.specs.declared.frame.Frame.{Frame}
 use Rattle.plan.specs.declared.plan.Plan.{Plan}
-use Rattle.slots.specs.declared.slots.Slots.{Slots}
+use Rattle.plan.specs.declared.slots.Slots.{Slots}
 use Rattle.plan.specs.Frames.{has, distinct}
 use Rattle.plan.specs.Plans.{outline, outlines, listed, layers_in, frame_in, above, seen}
 use Rattle.hold.specs.Spots.{spot_of, screen_spot, store_spot, look}

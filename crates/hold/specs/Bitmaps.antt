@@ -3,7 +3,7 @@ use Rattle.std.specs.Prelude.{ℕ}
 use Rattle.raster.specs.Picture.{Picture}
 use Rattle.raster.specs.declared.bitmap.Bitmap.{Ghosts}
 use Rattle.plan.specs.declared.plan.Plan.{Plan}
-use Rattle.slots.specs.declared.slots.Slots.{Slots}
+use Rattle.plan.specs.declared.slots.Slots.{Slots}
 use Rattle.hold.specs.Held.{layer_held, Fitting, Drawn}
 
 module _ {S T : Type 0} (s : Ghosts S) (t : Ghosts T) where

@@ -6,8 +6,7 @@ ghost use Rattle.hold.specs.Spots.{slot_x, slot_y, spot_of};
 ghost use Rattle.hold.specs.Held.{Fitting, OwnPixel};
 
 use crate::spot::Spot;
-use plan::Plan;
-use slots::Slots;
+use plan::{Plan, Slots};
 
 /// The number of the patch that the pixel (u, v) of a client's layer is in; 2,400 if there is none.
 fn patch(c: u8, u: u16, v: u16) -> u16

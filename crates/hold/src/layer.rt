@@ -6,9 +6,8 @@ ghost use Rattle.hold.specs.Bitmaps.{Suits};
 use crate::find::find;
 use crate::single::{pixel, set_pixel};
 use crate::spot::Spot;
-use plan::Plan;
+use plan::{Plan, Slots};
 use raster::Bitmap;
-use slots::Slots;
 
 /// A value of the store, modulo 2^depth.
 pub fn masked(value: u8, depth: u8) -> u8

@@ -13,7 +13,7 @@ use Rattle.raster.specs.declared.span.Span.{Span}
 use Rattle.paper.specs.Slots.{slots_of}
 use Rattle.plan.specs.declared.frame.Frame.{Frame}
 use Rattle.plan.specs.declared.plan.Plan.{Plan}
-use Rattle.slots.specs.declared.slots.Slots.{Slots}
+use Rattle.plan.specs.declared.slots.Slots.{Slots}
 use Rattle.moving.specs.Phases.{Fitting, on_screen, just, in_row, Stowed, repainted}
 use Rattle.moving.proofs.Stows.{stowed_as, stowed_join, repainted_as, repainted_join}
 

@@ -1,5 +1,5 @@
 -- Filling with 0, and blanking slot by slot.
-use Rattle.std.proofs.Common.{◌≡◌, ℕ, ◌+◌, ◌-◌, ◌*◌, ◌/◌, ◌%◌, ◌^◌, ◌<◌, ◌≤◌, min, Bool, true, false, cond, ◌&&◌, ltb, ℤ, pos, Some, None, Option, sym, refl, ap, ◌∙◌, subst, ap₂, ⊎_elim, mod-lt, mul_comm, div-lt_iff_lt-mul, arith}
+use Rattle.std.proofs.Common.{◌≡◌, ℕ, ◌+◌, ◌-◌, ◌*◌, ◌/◌, ◌%◌, ◌^◌, ◌<◌, ◌≤◌, Bool, true, false, cond, ◌&&◌, ltb, ℤ, pos, Some, None, Option, sym, refl, ap, ◌∙◌, subst, ap₂, ⊎_elim, mod-lt, mul_comm, div-lt_iff_lt-mul, arith}
 use Rattle.std.proofs.lemmas.Nat.{pow_pos}
 use Rattle.std.proofs.lemmas.Bool.Decides.{nat_tests}
 use Rattle.std.proofs.lemmas.Int.{ints}
@@ -13,13 +13,12 @@ use Rattle.raster.proofs.Accepts.{fill_accepted, after_accepted}
 use Rattle.raster.proofs.Lawful.{bitmap_laws_lem}
 use Rattle.raster.proofs.Paints.{painted_at, painted_same}
 use Rattle.plan.specs.declared.frame.Frame.{Frame}
-use Rattle.slots.specs.declared.slots.Slots.{Slots}
-use Rattle.plan.specs.Plans.{patch_at}
-use Rattle.slots.specs.Tables.{slot_of, has_slot}
+use Rattle.plan.specs.declared.slots.Slots.{Slots}
+use Rattle.plan.specs.Plans.{patch_at, slot_of, has_slot}
 use Rattle.hold.specs.Spots.{slot_x, slot_y, own_slot}
 use Rattle.hold.proofs.Places.{some_across}
 use Rattle.moving.proofs.Areas.{and_swap}
-use Rattle.moving.specs.Phases.{on_screen, in_slot, store_x, store_y, in_store, RowsAlone, Blanked}
+use Rattle.moving.specs.Phases.{on_screen, in_slot, store_x, store_y, in_store, Blanked}
 
 -- A rectangle filled with 0, by the rule that takes the source.
 pub filled_zero : (m : Picture) (f : Frame) → bitmap_after m (fill_with 3 0 f.x f.y f.w f.h) ≡ painted m (on_screen (sizes m) f) (λ _ _. 0)
@@ -97,20 +96,16 @@ module _ (t : Slots) (c : ℕ) (m : Picture) where
   pub blank_none : Blanking t c 0 m m
   blank_none = record { cleared = λ u v hu hv l k. absurd (omega arith); others = λ a b h. refl }
 
+  pub blank_all : (m' : Picture) → sizes m' ≡ sizes m → Blanking t c 300 m m' → Blanked t c m m'
+  blank_all m' e d = record {
+    size = e;
+    cleared = λ u v hu hv k. d.cleared u v hu hv (omega arith) k;
+    others = λ a b h. d.others a b (λ u v hu hv l k ea eb. h u v hu hv k ea eb);
+  }
+
   -- the patch of a number, and its pixels
   own_patch : (i u v : ℕ) → patch_within u v ≡ i → patch_at c (u / 16) (v / 16) ≡ 300 * c + i
   own_patch i u v e = omega arith
-
-  pub blank_all : (n rows : ℕ) (m' : Picture) → n ≡ 20 * min rows 15 → RowsAlone t c rows → sizes m' ≡ sizes m → Blanking t c n m m' → Blanked t c m m'
-  blank_all n rows m' en alone e d = record {
-    size = e;
-    cleared = λ u v hu hv k.
-        ⊎_elim (λ (l : patch_within u v < n). d.cleared u v hu hv l k)
-        (λ (l : n ≤ patch_within u v).
-        absurd (both_ways (in_store t c u v) (ap (has_slot t) (own_patch (patch_within u v) u v refl) ∙ alone (patch_within u v) (omega arith) (omega arith)) k))
-        (cases_lt (patch_within u v) n);
-    others = λ a b h. d.others a b (λ u v hu hv l k ea eb. h u v hu hv k ea eb);
-  }
 
   module _ (i : ℕ) (m' : Picture) (small : i < 300) (d : Blanking t c i m m') where
     -- a patch without a slot

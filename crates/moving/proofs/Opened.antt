@@ -9,7 +9,7 @@ use Rattle.raster.proofs.Paints.{painted_at, painted_sizes}
 use Rattle.paper.specs.Layers.{covered, topmost, screen_after}
 use Rattle.paper.proofs.Screen.{topmost_tells}
 use Rattle.plan.specs.declared.plan.Plan.{Plan}
-use Rattle.slots.specs.declared.slots.Slots.{Slots}
+use Rattle.plan.specs.declared.slots.Slots.{Slots}
 use Rattle.plan.specs.Frames.{has}
 use Rattle.plan.specs.Plans.{outline, listed, layers_in, frame_in, seen, patch_at, hidden_patch}
 use Rattle.plan.proofs.Sifts.{open_low}

@@ -10,10 +10,9 @@ use Rattle.paper.proofs.Screen.{none_topmost, topmost_tells}
 use Rattle.paper.proofs.Layers.{or_else_none}
 use Rattle.plan.specs.declared.frame.Frame.{Frame}
 use Rattle.plan.specs.declared.plan.Plan.{Plan}
-use Rattle.slots.specs.declared.slots.Slots.{Slots}
+use Rattle.plan.specs.declared.slots.Slots.{Slots}
 use Rattle.plan.specs.Frames.{no_frame, has}
-use Rattle.plan.specs.Plans.{outline, outlines, listed, layers_in, frame_in, patch_at, patch_of}
-use Rattle.slots.specs.Tables.{has_slot}
+use Rattle.plan.specs.Plans.{outline, outlines, listed, layers_in, frame_in, patch_at, patch_of, has_slot}
 use Rattle.hold.specs.Held.{Pixels, layers_with}
 use Rattle.hold.proofs.Places.{covered_listed}
 use Rattle.hold.proofs.Papers.{layers_same}

@@ -8,7 +8,7 @@ use Rattle.paper.specs.Layers.{Desk, topmost, screen_after}
 use Rattle.paper.specs.Desk.{change, open_layer, close_layer, raise_layer, lower_layer, move_layer}
 use Rattle.plan.specs.declared.frame.Frame.{Frame}
 use Rattle.plan.specs.declared.plan.Plan.{Plan}
-use Rattle.slots.specs.declared.slots.Slots.{Slots}
+use Rattle.plan.specs.declared.slots.Slots.{Slots}
 use Rattle.plan.specs.Frames.{has}
 use Rattle.plan.specs.Plans.{outline, listed, layers_in, frame_in}
 use Rattle.plan.specs.Arranged.{Arranged, SameFrames, OtherFrames, can_open}

@@ -14,7 +14,7 @@ use Rattle.paper.proofs.Screen.{topmost_tells, none_topmost}
 use Rattle.paper.proofs.Hidden.{covers_pixel}
 use Rattle.plan.specs.declared.frame.Frame.{Frame}
 use Rattle.plan.specs.declared.plan.Plan.{Plan}
-use Rattle.slots.specs.declared.slots.Slots.{Slots}
+use Rattle.plan.specs.declared.slots.Slots.{Slots}
 use Rattle.plan.specs.Frames.{no_frame, has, distinct}
 use Rattle.plan.specs.Plans.{outline, outlines, listed, layers_in, frame_in, above, seen, patch_at}
 use Rattle.plan.proofs.Sifts.{open_low}

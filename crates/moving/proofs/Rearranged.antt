@@ -10,10 +10,9 @@ use Rattle.paper.specs.Layers.{Layer, covered, topmost, shown, screen_after}
 use Rattle.paper.specs.Slots.{slots_of, obscured, hidden, hidden_in}
 use Rattle.paper.proofs.Screen.{topmost_tells, none_shown, screen_sizes}
 use Rattle.plan.specs.declared.plan.Plan.{Plan}
-use Rattle.slots.specs.declared.slots.Slots.{Slots}
+use Rattle.plan.specs.declared.slots.Slots.{Slots}
 use Rattle.plan.specs.Frames.{has}
-use Rattle.plan.specs.Plans.{outline, listed, layers_in, frame_in, above, seen, patch_at, hidden_patch}
-use Rattle.slots.specs.Tables.{slot_of, has_slot}
+use Rattle.plan.specs.Plans.{outline, listed, layers_in, frame_in, above, seen, patch_at, hidden_patch, slot_of, has_slot}
 use Rattle.plan.proofs.Patches.{any_of, hidden_open}
 use Rattle.hold.specs.Spots.{slot_x, slot_y, screen_spot, store_spot, spot_of, look}
 use Rattle.hold.specs.Held.{Pixels, layers_with, held, Holds}

@@ -6,7 +6,7 @@ use Rattle.raster.specs.Picture.{Picture, sizes, painted, with_pixel}
 use Rattle.raster.proofs.Paints.{painted_at, painted_sizes, painted_same, painted_none, painted_more}
 use Rattle.paper.specs.Slots.{slots_of}
 use Rattle.plan.specs.declared.plan.Plan.{Plan}
-use Rattle.slots.specs.declared.slots.Slots.{Slots}
+use Rattle.plan.specs.declared.slots.Slots.{Slots}
 use Rattle.hold.specs.Spots.{Settable}
 use Rattle.moving.specs.declared.backing.Backing.{Backing}
 use Rattle.moving.specs.declared.backing.Backing.TheVariants.{Bare, Alone, Kept}

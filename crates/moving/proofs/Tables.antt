@@ -5,10 +5,9 @@ use Rattle.paper.specs.Layers.{without}
 use Rattle.paper.specs.Slots.{hidden_in}
 use Rattle.paper.proofs.Outline.{Implies, hidden_in_mono}
 use Rattle.plan.specs.declared.plan.Plan.{Plan}
-use Rattle.slots.specs.declared.slots.Slots.{Slots}
-use Rattle.plan.specs.Plans.{layers_in, hidden_patch, patch_of, needs}
-use Rattle.slots.specs.Tables.{has_slot, Fits}
-use Rattle.slots.specs.Allots.{Supplied, Retained}
+use Rattle.plan.specs.declared.slots.Slots.{Slots}
+use Rattle.plan.specs.Plans.{layers_in, hidden_patch, patch_of, needs, has_slot, Fits}
+use Rattle.plan.specs.Allots.{Supplied, Retained}
 use Rattle.moving.specs.Moves.{Slotted}
 
 -- What is left where each patch in need had a slot fits.

@@ -6,11 +6,10 @@ use Rattle.paper.specs.Layers.{Desk, only, without, alter, at_corner, screen_aft
 use Rattle.paper.specs.Desk.{change, open_layer, close_layer, raise_layer, lower_layer, move_layer}
 use Rattle.plan.specs.declared.frame.Frame.{Frame}
 use Rattle.plan.specs.declared.plan.Plan.{Plan}
-use Rattle.slots.specs.declared.slots.Slots.{Slots}
+use Rattle.plan.specs.declared.slots.Slots.{Slots}
 use Rattle.plan.specs.Frames.{has}
-use Rattle.plan.specs.Plans.{outline, listed, layers_in, frame_in, hidden_patch, patch_of, needs}
-use Rattle.slots.specs.Tables.{has_slot, Fits}
-use Rattle.slots.specs.Allots.{Supplied, Retained}
+use Rattle.plan.specs.Plans.{outline, listed, layers_in, frame_in, hidden_patch, patch_of, needs, has_slot, Fits}
+use Rattle.plan.specs.Allots.{Supplied, Retained}
 use Rattle.plan.specs.Arranged.{Arranged, SameFrames, OtherFrames, cornered, can_open}
 use Rattle.hold.specs.Held.{paper_of}
 use Rattle.moving.specs.Phases.{Fitting, on_screen, Stowed, repainted, Blanked}

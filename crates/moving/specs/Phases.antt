@@ -1,5 +1,5 @@
 -- What stands behind a screen place, and what stowing, repainting and blanking leave.
-use Rattle.std.specs.Prelude.{◌≡◌, ℕ, ◌+◌, ◌*◌, ◌/◌, ◌%◌, ◌^◌, ◌<◌, ◌≤◌, Bool, true, false, cond, ◌&&◌, ℤ, pos, ◌-ℤ◌, Some, None, Option, ◌==◌, ◌≢◌, unsigned_abs}
+use Rattle.std.specs.Prelude.{◌≡◌, ℕ, ◌+◌, ◌/◌, ◌%◌, ◌^◌, ◌<◌, Bool, true, false, cond, ◌&&◌, ℤ, pos, ◌-ℤ◌, Some, None, Option, ◌==◌, ◌≢◌, unsigned_abs}
 use Rattle.raster.specs.Picture.{Picture, sizes, painted}
 use Rattle.raster.specs.Blt.{in_rectangle, inside}
 use Rattle.raster.specs.Blits.{between, spans}
@@ -9,9 +9,8 @@ use Rattle.paper.specs.Layers.{Layer, topmost}
 use Rattle.paper.specs.Slots.{slots_of}
 use Rattle.plan.specs.declared.frame.Frame.{Frame}
 use Rattle.plan.specs.declared.plan.Plan.{Plan}
-use Rattle.slots.specs.declared.slots.Slots.{Slots}
-use Rattle.plan.specs.Plans.{layers_in, patch_at}
-use Rattle.slots.specs.Tables.{has_slot}
+use Rattle.plan.specs.declared.slots.Slots.{Slots}
+use Rattle.plan.specs.Plans.{layers_in, patch_at, has_slot}
 use Rattle.hold.specs.Spots.{slot_x, slot_y, own_slot}
 use Rattle.moving.specs.declared.backing.Backing.{Backing}
 use Rattle.moving.specs.declared.backing.Backing.TheVariants.{Bare, Alone, Kept}
@@ -85,10 +84,6 @@ repainted store p t at screen =
 -- The square of slot k.
 abbrev pub in_slot : (width k : ℕ) → ℕ → ℕ → Bool
 in_slot width k a b = between (slot_x width k) 16 a && between (slot_y width k) 16 b
-
--- Of a client's patches only those in the first rows have slots; a row has 20 numbers.
-abbrev pub RowsAlone : Slots → (client rows : ℕ) → Type 0
-RowsAlone t c rows = (k : ℕ) → 20 * rows ≤ k → k < 300 → has_slot t (300 * c + k) ≡ false
 
 -- The store after the slots of a client's patches were set to 0, each a whole square.
 pub record Blanked (t : Slots) (c : ℕ) (before after : Picture) : Type 0 where

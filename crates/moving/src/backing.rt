@@ -2,8 +2,7 @@
 ghost use Rattle.std.specs.Prelude.{◌≡◌, ℕ, ◌<◌, ◌≤◌, pos, ◌+ℤ◌};
 ghost use Rattle.moving.specs.Phases.{kept_pixel, behind};
 
-use plan::Plan;
-use slots::Slots;
+use plan::{Plan, Slots};
 
 /// No layer; a layer's pixel whose patch has no slot, so that it is on the screen alone; or one whose patch has a slot, and its
 /// place in the store.

@@ -1,10 +1,10 @@
 //! Blanking: the slots of a client's patches are set to 0.
 ghost use Rattle.std.specs.Prelude.{◌≡◌, ◌+◌, ◌*◌, ◌/◌, ◌<◌, ◌≤◌, pos};
 ghost use Rattle.raster.specs.Picture.{sizes, painted};
-ghost use Rattle.moving.specs.Phases.{in_slot, RowsAlone, Blanked};
+ghost use Rattle.moving.specs.Phases.{in_slot, Blanked};
 
+use plan::Slots;
 use raster::Bitmap;
-use slots::Slots;
 
 /// A coordinate as the calls of a bitmap take it.
 fn signed(a: u16) -> i16
@@ -31,14 +31,14 @@ fn blank_slot<T: Bitmap>(store: &mut T, k: u16)
     );
 }
 
-/// Sets the slots of a client's patches to 0, where only patches in the first `rows` rows have one.
-pub fn blank<T: Bitmap>(store: &mut T, slots: &Slots, c: u8, rows: u16)
+/// Sets the slots of a client's patches to 0.
+pub fn blank<T: Bitmap>(store: &mut T, slots: &Slots, c: u8)
     ensures keeps { T.Bitmap.keeps store.old store.new }
     ensures size { sizes (T.Bitmap.picture store.new) ≡ sizes (T.Bitmap.picture store.old) }
-    ensures blanks { c < 8 → slots.now.places ≤ ((T.Bitmap.picture store.old).width / 16) * ((T.Bitmap.picture store.old).height / 16) → RowsAlone slots.now c rows → Blanked slots.now c (T.Bitmap.picture store.old) (T.Bitmap.picture store.new) }
+    ensures blanks { c < 8 → slots.now.places ≤ ((T.Bitmap.picture store.old).width / 16) * ((T.Bitmap.picture store.old).height / 16) → Blanked slots.now c (T.Bitmap.picture store.old) (T.Bitmap.picture store.new) }
 {
     let first = 300 * c.min(8) as u16;
-    for i in 0..20 * rows.min(15) {
+    for i in 0..300u16 {
         if let Some(k) = slots.slot(first + i) {
             blank_slot(store, k);
         }

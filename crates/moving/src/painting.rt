@@ -5,9 +5,8 @@ ghost use Rattle.moving.specs.Phases.{Fitting, on_screen, just, in_row, changes,
 
 use crate::backing::{Backing, behind};
 use hold::{masked, pixel, set_pixel};
-use plan::{Frame, Plan};
+use plan::{Frame, Plan, Slots};
 use raster::{Bitmap, Span};
-use slots::Slots;
 
 /// What a place gets of a store, if it is to change.
 fn found<T: Bitmap>(store: &T, depth: u8, backing: Backing) -> Option<u8>

@@ -5,9 +5,8 @@ ghost use Rattle.moving.specs.Phases.{Fitting, on_screen, just, in_row, Stowed};
 
 use crate::backing::{Backing, behind};
 use hold::{pixel, set_pixel};
-use plan::{Frame, Plan};
+use plan::{Frame, Plan, Slots};
 use raster::{Bitmap, Span};
-use slots::Slots;
 
 /// Copies the pixel that shows at (x, y) to its place in the store, if it has one.
 fn stow_pixel<S: Bitmap, T: Bitmap>(

@@ -3,3 +3,7 @@ pub mod Sights
 pub mod Orders
 pub mod Sifts
 pub mod Patches
+pub mod Counts
+pub mod Supplies
+pub mod Regroup
+pub mod Lawful

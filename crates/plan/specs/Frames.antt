@@ -1,5 +1,5 @@
--- Frames of layers, and clients, as plain lists.
-use Rattle.std.specs.Prelude.{ℕ, Bool, true, false, not, ◌&&◌, ◌||◌, List, [], ◌∷◌, pos, ◌==◌}
+-- Frames of layers and tables of slots, as plain lists.
+use Rattle.std.specs.Prelude.{◌≡◌, ℕ, ◌+◌, ◌*◌, ◌/◌, ◌%◌, ◌<◌, Bool, true, false, cond, not, ◌&&◌, ◌||◌, List, [], ◌∷◌, pos, ◌==◌, slice_index, slice_index_or}
 use Rattle.plan.specs.declared.frame.Frame.{Frame}
 
 abbrev pub no_frame : Frame
@@ -13,3 +13,10 @@ has c (d ∷ ds) = d == c || has c ds
 abbrev pub distinct : List ℕ → Bool
 distinct [] = true
 distinct (c ∷ cs) = not (has c cs) && distinct cs
+
+-- two patches with one slot
+pub record Clash (places : ℕ) (table : List ℕ) (p q : ℕ) : Type 0 where
+  pub one : p < 2400
+  pub other : q < 2400
+  pub taken : slice_index_or table p 0 < places
+  pub same : slice_index_or table p 0 ≡ slice_index table q

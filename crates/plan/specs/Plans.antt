@@ -1,11 +1,12 @@
--- Arrangements of layers, and which of their patches are hidden, over the definitions of the desk on paper.
-use Rattle.std.specs.Prelude.{◌≡◌, ℕ, ◌+◌, ◌*◌, ◌/◌, ◌%◌, ◌<◌, Bool, true, false, cond, not, ◌&&◌, ◌||◌, List, [], ◌∷◌, take, ◌==◌, nat_lt, slice_index_or}
+-- Arrangements of layers, and which of their patches are hidden and have slots, over the definitions of the desk on paper.
+use Rattle.std.specs.Prelude.{◌≡◌, ℕ, ◌+◌, ◌*◌, ◌/◌, ◌%◌, ◌<◌, Bool, true, false, cond, not, ◌&&◌, ◌||◌, List, [], ◌∷◌, take, ◌==◌, nat_lt, slice_index, slice_index_or}
 use Rattle.raster.specs.declared.size.Size.{Size}
 use Rattle.paper.specs.Layers.{Layer, Desk}
 use Rattle.paper.specs.Slots.{visible, hidden_in}
 use Rattle.paper.specs.Desk.{new_layer}
 use Rattle.plan.specs.declared.frame.Frame.{Frame}
 use Rattle.plan.specs.declared.plan.Plan.{Plan}
+use Rattle.plan.specs.declared.slots.Slots.{Slots}
 use Rattle.plan.specs.Frames.{no_frame, has}
 
 -- A layer by its client, corner and size alone: what is visible, hidden and topmost depends on nothing else. Its pixels are 0.
@@ -51,3 +52,14 @@ patch_of p c k = has c (listed p) && (k / 300 == c && (nat_lt (16 * (k % 300 % 2
 -- layer of a client is moved, all of that.
 abbrev pub needs : (before after : Plan) (moved : ℕ) → ℕ → Bool
 needs before after moved k = hidden_patch before k || (hidden_patch after k || patch_of after moved k)
+
+-- The slot of a patch.
+abbrev pub slot_of : Slots → ℕ → ℕ
+slot_of t k = slice_index t.table k
+
+abbrev pub has_slot : Slots → ℕ → Bool
+has_slot t k = nat_lt (slot_of t k) t.places
+
+-- A table fits an arrangement: a patch has a slot exactly if it is hidden.
+abbrev pub Fits : Plan → Slots → Type 0
+Fits p t = (k : ℕ) → k < 2400 → has_slot t k ≡ hidden_patch p k

@@ -1,9 +1,15 @@
-//! Arrangements of layers, in plain numbers.
+//! Arrangements of layers and tables of slots, in plain numbers.
 mod arrange;
 mod ask;
 mod frame;
+mod laws;
+mod marks;
 mod plan;
+mod slots;
 mod start;
+mod tables;
 
 pub use frame::Frame;
+pub use laws::plan_laws;
 pub use plan::Plan;
+pub use slots::Slots;

@@ -1,4 +1,4 @@
-use Rattle.std.proofs.Common.{◌≡◌, ℕ, ◌+◌, ◌*◌, ◌<◌, min, sym, refl, ap, ◌∙◌, subst, arith}
+use Rattle.std.proofs.Common.{◌≡◌, ℕ, ◌+◌, ◌*◌, sym, refl, ap, ◌∙◌, subst, arith}
 use Rattle.std.proofs.lemmas.Bool.{ltb-true}
 use Rattle.raster.specs.Picture.{sizes}
 use Rattle.moving.proofs.Blanks.{Blanking, blank_none, blank_all, blank_turn, blank_past, slot_found}
@@ -23,14 +23,13 @@ loop-i-preserved g c =
     let m = g.T.Bitmap.picture a.store.now in
     let m' = g.T.Bitmap.picture l.store in
     let n : ℕ = 300 * c.min.result + l.i in
-    let small : l.i < 300 = omega (arith, c.min-i-end.ensures) in
     elim c.match-slot.branch [
       | in-Some w ↦ (
         subst (g.T.Bitmap.keeps a.store.now) (sym w.store-is) (g.met.T.Bitmap.joins a.store.now l.store w.blank-slot.new.store l.invariant.0 w.blank-slot.ensures.keeps),
         ap (λ z. sizes (g.T.Bitmap.picture z)) w.store-is ∙ w.blank-slot.ensures.size ∙ l.invariant.1,
         λ h f.
             let en : n ≡ 300 * a.c + l.i = omega (arith, c.min.ensures) in
-            blank_turn a.slots.now a.c l.i n m m' f h small en l.invariant.1 (l.invariant.2 h f) w.in-Some.k (g.T.Bitmap.picture c.match-slot.store) w.in-Some.ensures
+            blank_turn a.slots.now a.c l.i n m m' f h c.loop-i-test.true en l.invariant.1 (l.invariant.2 h f) w.in-Some.k (g.T.Bitmap.picture c.match-slot.store) w.in-Some.ensures
             (λ k. ap g.T.Bitmap.picture w.store-is ∙ w.blank-slot.ensures.blanks k),
       )
       | in-default w ↦ (
@@ -39,7 +38,7 @@ loop-i-preserved g c =
         λ h f.
             let en : n ≡ 300 * a.c + l.i = omega (arith, c.min.ensures) in
             subst (λ z. Blanking a.slots.now a.c (l.i + 1) m (g.T.Bitmap.picture z)) (sym w.store-is)
-            (blank_past a.slots.now a.c l.i n m m' f h small en l.invariant.1 (l.invariant.2 h f) c.slot.result c.slot.ensures w.in-default.not-Some),
+            (blank_past a.slots.now a.c l.i n m m' f h c.loop-i-test.true en l.invariant.1 (l.invariant.2 h f) c.slot.result c.slot.ensures w.in-default.not-Some),
       )
     ]
 
@@ -47,9 +46,5 @@ pub returns : goal.returns
 returns g c =
     let a = c.args in
     let l = c.loop-i in
-    let e : l.i ≡ 20 * min a.rows 15 = omega (arith, c.min-i-end.ensures) in
-    record {
-      keeps = l.invariant.0;
-      size = l.invariant.1;
-      blanks = λ h f alone. blank_all a.slots.now a.c (g.T.Bitmap.picture a.store.now) l.i a.rows (g.T.Bitmap.picture l.store) e alone l.invariant.1 (l.invariant.2 h f);
-    }
+    let e : l.i ≡ 300 = omega arith in
+    record { keeps = l.invariant.0; size = l.invariant.1; blanks = λ h f. blank_all a.slots.now a.c (g.T.Bitmap.picture a.store.now) (g.T.Bitmap.picture l.store) l.invariant.1 (subst (λ (n : ℕ). Blanking a.slots.now a.c n (g.T.Bitmap.picture a.store.now) (g.T.Bitmap.picture l.store)) e (l.invariant.2 h f)) }

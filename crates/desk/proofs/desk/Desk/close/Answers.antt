@@ -1,8 +1,8 @@
-use Rattle.std.proofs.Common.{false, sym, refl, ◌∙◌}
+use Rattle.std.proofs.Common.{refl, ◌∙◌, subst}
 use Rattle.std.proofs.lemmas.Result.{err_from_is_err_and}
-use Rattle.slots.proofs.Allotted.{needs_before}
-use Rattle.slots.proofs.Concerned.{close_concerns}
+use Rattle.plan.specs.declared.frame.Frame.{Frame}
 use Rattle.moving.proofs.Tables.{fewer}
+use Rattle.desk.specs.Moves.{Rearranges}
 use Rattle.desk.proofs.Reordered.{close_shut, close_does}
 use Rattle.desk.proofs.desk.Desk.close.Goals as goal
 
@@ -23,13 +23,8 @@ returns-in-err-check-open g c =
 pub rearrange-requires : goal.rearrange-requires
 rearrange-requires g c =
     let b = c.args.self.now.book in
-    let q = c.closed-after.result in
     let a = c.closed-after.ensures.arranged in
-    record {
-      concerns = close_concerns b.plan q c.args.c a c.closed-after.ensures.frames;
-      whole = false;
-      each = λ k l. b.held k l ∙ sym (needs_before b.plan q k l (fewer b.plan q c.args.c a.screen a.layers k));
-    }
+    λ k l h. b.held k l ∙ fewer b.plan c.closed-after.result c.args.c a.screen a.layers k h
 
 pub returns : goal.returns
 returns g c =
@@ -41,7 +36,7 @@ returns g c =
     record {
       does = close_does s t d.book a.c c.in-ok-check-open.ensures (g.S.Bitmap.picture e.screen) (g.T.Bitmap.picture e.store) e.book c.closed-after.result
           (g.met.S.Bitmap.sound d.screen) c.closed-after.ensures.arranged c.closed-after.ensures.frames c.rearrange.ensures.book
-          c.rearrange.ensures.pixels;
+          (subst (λ (z : Frame). Rearranges d.book.plan c.closed-after.result d.book.slots z s t (g.S.Bitmap.picture e.screen) (g.T.Bitmap.picture e.store)) c.frame-area.ensures c.rearrange.ensures.pixels);
       rest = c.rearrange.ensures.rest;
       refused = tt;
     }

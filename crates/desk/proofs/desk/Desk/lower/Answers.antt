@@ -1,9 +1,5 @@
-use Rattle.slots.proofs.Concerned.{lower_concerns}
 use Rattle.desk.specs.Moves.{lowers}
 use Rattle.desk.proofs.desk.Desk.lower.Goals as goal
-
-pub reorder-requires : goal.reorder-requires
-reorder-requires g c = lower_concerns _ _ c.args.c c.lowered-after.ensures.arranged c.lowered-after.ensures.frames
 
 pub returns : goal.returns
 returns g c =

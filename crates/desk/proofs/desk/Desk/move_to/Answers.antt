@@ -1,11 +1,12 @@
 use Rattle.std.proofs.Common.{◌≡◌, true, sym, refl, ap, ◌∙◌, subst, w16, to_z, of_z}
 use Rattle.std.proofs.lemmas.Result.{err_from_is_err_and}
 use Rattle.std.proofs.lemmas.Int.{to_z-of_z}
+use Rattle.plan.specs.declared.frame.Frame.{Frame}
 use Rattle.plan.specs.Frames.{has}
 use Rattle.plan.specs.Plans.{listed, layers_in, frame_in}
 use Rattle.plan.specs.Arranged.{Arranged, cornered}
 use Rattle.paper.specs.Layers.{alter, at_corner}
-use Rattle.slots.proofs.Concerned.{move_concerns}
+use Rattle.desk.specs.Moves.{Carries}
 use Rattle.desk.proofs.Moved.{at_corner_passed, move_shut, move_few, move_does}
 use Rattle.desk.proofs.desk.Desk.move_to.Goals as goal
 
@@ -35,23 +36,14 @@ returns-in-err-slots g c =
     let ey : to_z w16 (of_z w16 a.y) ≡ a.y = to_z-of_z w16 a.y c.ranges.y in
     let arranged = at_corner_passed (λ x y. Arranged p after (alter a.c (at_corner x y) (layers_in p)) (λ d. has d (listed p))) ex ey c.moved-after.ensures.arranged in
     let own = at_corner_passed (λ x y. has a.c (listed p) ≡ true → frame_in after a.c ≡ cornered x y (frame_in p a.c)) ex ey c.moved-after.ensures.own in
-    let few = c.in-err-slots.ensures (move_concerns p after a.c a.x a.y arranged c.moved-after.ensures.frames own) in
     let err = err_from_is_err_and c.from-residual-in-err-slots.result c.from-residual-in-err-slots.ensures.1 in
     rw (err.1, err.2)
     (record {
       does = move_few s t d.book a.c a.x a.y c.in-ok-check-open.ensures c.moved-after.result arranged c.moved-after.ensures.frames own
-          _ few.0 few.1;
+          _ c.in-err-slots.ensures.0 c.in-err-slots.ensures.1;
       rest = record { screen = g.met.S.Bitmap.same d.screen; store = g.met.T.Bitmap.same d.store };
       refused = refl;
     })
-
-pub carry-requires : goal.carry-requires
-carry-requires g c =
-    let a = c.args in
-    let p = a.self.now.book.plan in
-    let after = c.moved-after.result in
-    let ch = move_concerns p after a.c _ _ c.moved-after.ensures.arranged c.moved-after.ensures.frames c.moved-after.ensures.own in
-    record { concerns = ch; whole = true; each = (c.in-ok-slots.ensures ch).1.has }
 
 pub returns : goal.returns
 returns g c =
@@ -67,11 +59,12 @@ returns g c =
     let own = at_corner_passed (λ x y. has a.c (listed p) ≡ true → frame_in after a.c ≡ cornered x y (frame_in p a.c)) ex ey c.moved-after.ensures.own in
     let e = c.carry.new.self in
     let slots = c.in-ok-slots.slots in
-    let way = c.in-ok-slots.ensures (move_concerns p after a.c a.x a.y arranged c.moved-after.ensures.frames own) in
+    let way = c.in-ok-slots.ensures in
     record {
       does = move_does s t d.book a.c a.x a.y c.in-ok-check-open.ensures after arranged c.moved-after.ensures.frames own
           (g.S.Bitmap.picture e.screen) (g.T.Bitmap.picture e.store) e.book slots (g.met.S.Bitmap.sound d.screen) way.0 way.1 c.carry.ensures.book
-          c.carry.ensures.pixels;
+          (subst (λ (z : Frame). Carries d.book.plan after slots z (frame_in after a.c) s t (g.S.Bitmap.picture e.screen) (g.T.Bitmap.picture e.store)) c.frame-old.ensures
+          (subst (λ (z : Frame). Carries d.book.plan after slots c.frame-old.result z s t (g.S.Bitmap.picture e.screen) (g.T.Bitmap.picture e.store)) c.frame-new.ensures c.carry.ensures.pixels));
       rest = c.carry.ensures.rest;
       refused = tt;
     }

@@ -1,4 +1,4 @@
-use Rattle.std.proofs.Common.{◌≡◌, false, sym, refl, ap, ◌∙◌, subst, w16, to_z, of_z}
+use Rattle.std.proofs.Common.{◌≡◌, sym, refl, ap, ◌∙◌, subst, w16, to_z, of_z}
 use Rattle.std.proofs.lemmas.Result.{err_from_is_err_and}
 use Rattle.std.proofs.lemmas.Int.{to_z-of_z}
 use Rattle.raster.specs.Picture.{Picture, sizes}
@@ -9,7 +9,7 @@ use Rattle.plan.specs.declared.frame.Frame.{Frame}
 use Rattle.moving.proofs.Areas.{fitting_same, fitting_few}
 use Rattle.desk.specs.Desks.{state_on}
 use Rattle.desk.proofs.Moved.{at_corner_passed}
-use Rattle.desk.proofs.Opens.{fill_sizes, open_shut, can, low, concerns, rows_alone, open_few, open_does}
+use Rattle.desk.proofs.Opens.{fill_sizes, open_shut, can, low, open_few, open_does}
 use Rattle.desk.proofs.Settles.{sized}
 use Rattle.desk.proofs.desk.Desk.open.Goals as goal
 
@@ -41,30 +41,14 @@ returns-in-err-slots g c =
     let fits = c.current-book.ensures.fits in
     let same = c.current-book.ensures.same in
     let is = can s t d.book a.c f b fits same ok in
-    let few = c.in-err-slots.ensures (concerns s t d.book a.c f b fits same ok c.opened-after.result (c.opened-after.ensures.arranged is) c.opened-after.ensures.frames) in
     let err = err_from_is_err_and c.from-residual-in-err-slots.result c.from-residual-in-err-slots.ensures.1 in
     rw (err.1, err.2)
     (record {
       does = at _ _ (open_few s t d.book a.c f b fits same ok c.opened-after.result (c.opened-after.ensures.arranged is) c.opened-after.ensures.frames
-          _ few.0 few.1);
+          _ c.in-err-slots.ensures.0 c.in-err-slots.ensures.1);
       rest = record { screen = g.met.S.Bitmap.same d.screen; store = g.met.T.Bitmap.same d.store };
       refused = refl;
     })
-
-pub settled-self-requires : goal.settled-self-requires
-settled-self-requires g c =
-    let a = c.args in
-    let d = a.self.now in
-    let s = g.S.Bitmap.picture d.screen in
-    let t = g.T.Bitmap.picture d.store in
-    let f : Frame = record { x = to_z w16 (of_z w16 a.x); y = to_z w16 (of_z w16 a.y); w = a.w; h = a.h } in
-    let b = c.current-book.result in
-    let ok = c.in-ok-check-new.ensures in
-    let fits = c.current-book.ensures.fits in
-    let same = c.current-book.ensures.same in
-    let is = can s t d.book a.c f b fits same ok in
-    let ch = concerns s t d.book a.c f b fits same ok c.opened-after.result (c.opened-after.ensures.arranged is) c.opened-after.ensures.frames in
-    record { concerns = ch; whole = false; each = (c.in-ok-slots.ensures ch).1.has }
 
 pub returns : goal.returns
 returns g c =
@@ -80,7 +64,7 @@ returns g c =
     let same = c.current-book.ensures.same in
     let is = can s t d.book a.c f b fits same ok in
     let slots = c.in-ok-slots.slots in
-    let way = c.in-ok-slots.ensures (concerns s t d.book a.c f b fits same ok c.opened-after.result (c.opened-after.ensures.arranged is) c.opened-after.ensures.frames) in
+    let way = c.in-ok-slots.ensures in
     let t₁ = g.T.Bitmap.picture c.stow.new.store in
     let fit = sized s t b fits slots way.1.places in
     let zeros : g.S.Bitmap.picture c.fill.new.self ≡ bitmap_after s (fill_with 3 0 f.x f.y f.w f.h) = c.fill.ensures.after in
@@ -88,9 +72,7 @@ returns g c =
       does = at _ _ (open_does s t d.book a.c f b fits same ok c.opened-after.result (c.opened-after.ensures.arranged is) c.opened-after.ensures.frames
           t₁ (g.S.Bitmap.picture c.fill.new.self) (g.T.Bitmap.picture c.blank.new.store) c.settled-self.result slots (g.met.S.Bitmap.sound d.screen) way.0 way.1
           (c.opened-after.ensures.own is) (ap sizes zeros ∙ fill_sizes s f) (c.blank.ensures.size ∙ c.stow.ensures.size) c.settled-self.ensures (c.stow.ensures.stows fit)
-          (c.blank.ensures.blanks (low s t d.book a.c f b fits same ok) (fitting_few s t₁ b.plan slots (fitting_same s s t t₁ b.plan slots refl c.stow.ensures.size fit))
-          (rows_alone s t d.book a.c f b fits same ok c.opened-after.result (c.opened-after.ensures.arranged is) c.opened-after.ensures.frames slots c.div-ceil.result way.1
-          (c.opened-after.ensures.own is) c.div-ceil.ensures)) zeros);
+          (c.blank.ensures.blanks (low s t d.book a.c f b fits same ok) (fitting_few s t₁ b.plan slots (fitting_same s s t t₁ b.plan slots refl c.stow.ensures.size fit))) zeros);
       rest = record {
         screen = c.fill.ensures.rest;
         store = g.met.T.Bitmap.joins d.store c.stow.new.store c.blank.new.store c.stow.ensures.keeps c.blank.ensures.keeps;
