@@ -1,4 +1,6 @@
 //! The chart of the sixteen rules, on both kinds of bitmap.
+#![tactic(auto)]
+
 ghost use Rattle.std.specs.Prelude.{◌≡◌, ◌+◌, ◌%◌, if◌then◌else◌, nat_lt};
 
 use planes::Planes;

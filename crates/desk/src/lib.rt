@@ -1,4 +1,6 @@
 //! The desk: layers that overlap on a screen, what is covered kept in a store.
+#![tactic(auto)]
+
 mod ask;
 mod book;
 mod desk;

@@ -1,4 +1,6 @@
 //! Drawing on layers: rectangles painted and bitmaps stamped, pixel by pixel where they lie.
+#![tactic(auto)]
+
 mod rectangle;
 mod stamping;
 mod touch;

@@ -10,7 +10,7 @@ use Rattle.raster.specs.Calls.{any_below}
 use Rattle.raster.specs.declared.size.Size.{Size}
 use Rattle.paper.specs.Layers.{Layer, covers, covered}
 use Rattle.paper.specs.Slots.{obscured, hidden, hidden_in, slots_of}
-use Rattle.paper.proofs.Hidden.{covers_pixel}
+use Rattle.paper.proofs.HiddenPixels.{covers_pixel}
 use Rattle.plan.specs.declared.frame.Frame.{Frame}
 use Rattle.plan.specs.declared.plan.Plan.{Plan}
 use Rattle.plan.specs.declared.slots.Slots.{Slots}

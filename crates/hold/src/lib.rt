@@ -1,4 +1,6 @@
 //! Where the pixels of layers lie: visible ones on the screen, the others in slots of the store.
+#![tactic(auto)]
+
 mod find;
 mod layer;
 mod single;

@@ -11,7 +11,7 @@ use Rattle.paper.specs.Layers.{Layer, or_else, covers, covered, topmost}
 use Rattle.paper.specs.Slots.{slots_of}
 use Rattle.paper.specs.Desk.{client_if}
 use Rattle.paper.proofs.Screen.{topmost_tells, none_topmost}
-use Rattle.paper.proofs.Hidden.{covers_pixel}
+use Rattle.paper.proofs.HiddenPixels.{covers_pixel}
 use Rattle.plan.specs.declared.frame.Frame.{Frame}
 use Rattle.plan.specs.declared.plan.Plan.{Plan}
 use Rattle.plan.specs.declared.slots.Slots.{Slots}

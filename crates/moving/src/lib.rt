@@ -1,4 +1,6 @@
 //! The phases by which a desk goes from one arrangement of layers to another.
+#![tactic(auto)]
+
 mod backing;
 mod blanking;
 mod laws;

@@ -1,4 +1,6 @@
 //! Three overlapping layers on a small screen: calls with their answers, and what the screen shows in the end.
+#![tactic(auto)]
+
 mod call;
 
 use call::Call;

@@ -1,4 +1,6 @@
 //! A client's layer of a desk as a bitmap.
+#![tactic(auto)]
+
 mod calls;
 mod pane;
 

@@ -1,22 +1,22 @@
 -- A client's drawing on its own layer is the drawing of a bitmap: its pane.
-use Rattle.std.proofs.Common.{◌≡◌, ℕ, ◌^◌, ◌<◌, Bool, true, false, cond, not, ◌&&◌, eqb, ltb, ◌⊎◌, List, [], ◌∷◌, ℤ, pos, nat_abs, is_some, Some, None, Ok, Err, Option, sym, refl, ap, ◌∙◌, subst, ⊎_elim, arith}
+use Rattle.std.proofs.Common.{◌≡◌, ℕ, Bool, true, false, ltb, [], ◌∷◌, ℤ, pos, nat_abs, is_some, Some, None, Option, sym, refl, ap, ◌∙◌, ⊎_elim, arith}
 use Rattle.std.proofs.lemmas.Int.{ints}
 use Rattle.std.proofs.lemmas.Bool.{cases_Bool, and_left, and_right, both_ways, false≢true}
 use Rattle.std.proofs.lemmas.Bool.Decides.{nat_tests}
-use Rattle.raster.specs.Picture.{Picture, sizes, painted}
-use Rattle.raster.specs.Blt.{Transfer, Source, inside, in_rectangle, concerned, blt}
-use Rattle.raster.specs.Calls.{BitmapCall, read_at, write_at, fill_with, scroll_by, unless, first_fault, refuse_if, if_refused, bitmap_fault, bitmap_value, bitmap_change, bitmap_after, bitmap_answer}
+use Rattle.raster.specs.Picture.{Picture, sizes}
+use Rattle.raster.specs.Blt.{Transfer, inside, concerned, blt}
+use Rattle.raster.specs.Calls.{BitmapCall, read_at, write_at, fill_with, scroll_by, unless, first_fault, refuse_if, bitmap_fault, bitmap_change, bitmap_after}
 use Rattle.raster.specs.declared.fault.Fault.{Fault}
 use Rattle.raster.specs.declared.refusal.Refusal.TheVariants.{ClientAboveSeven, NotOpen}
 use Rattle.raster.proofs.Accepts as bitmaps
 use Rattle.raster.proofs.Called.{write_found}
 use Rattle.raster.proofs.Paints.{painted_none}
 use Rattle.paper.specs.declared.DeskFault.{DeskFault}
-use Rattle.paper.specs.Layers.{Desk, Layer, pixels_of, is_open, pane, or_blank, blank}
-use Rattle.paper.specs.Desk.{Call, fill_layer, scroll_layer, because, fault_of, change, after, answer, no_client, not_open, carried, repaint}
+use Rattle.paper.specs.Layers.{Desk, pixels_of, is_open, pane, or_blank, blank}
+use Rattle.paper.specs.Desk.{Call, fill_layer, scroll_layer, because, fault_of, change, after, no_client, not_open, carried, repaint}
 use Rattle.paper.proofs.Layers.{not_some}
 use Rattle.paper.proofs.Pane.{repainted_pane}
-use Rattle.paper.proofs.View.{after_refused, after_accepted, answer_refused, answer_accepted}
+use Rattle.paper.proofs.View.{after_refused, after_accepted}
 
 -- the checks of a call to an open layer come down to the last
 pub open_checks : (c : ℕ) (d : Desk) (o : Option DeskFault) → ltb 7 c ≡ false → is_open c d ≡ true → first_fault (no_client c ∷ not_open c d ∷ o ∷ []) ≡ o

@@ -17,7 +17,7 @@ use Rattle.paper.proofs.View.{after_either, answer_refused, answer_accepted, aft
 use Rattle.paper.proofs.Layers.{not_some, pixels-++}
 use Rattle.paper.proofs.Order.{raised_raised, raised_lowered, placed_back, layers_of, layers-++, layers_split, layers_alter, none_only, opened_closed}
 use Rattle.paper.proofs.Pane.{above_seven}
-use Rattle.paper.proofs.Hidden.{clear_shows, shown_clear}
+use Rattle.paper.proofs.HiddenPixels.{clear_shows, shown_clear}
 use Rattle.paper.proofs.Outline.{repaint_hidden, hidden_needed, hidden_keep}
 use Rattle.paper.proofs.Screen.{visible_shows, covered_shows, uncovered_clears, untouched_stays, outside_stays}
 use Rattle.paper.proofs.Runs.{run_keeps, run_shows}

@@ -11,7 +11,7 @@ pub mod Plays
 pub mod Apart
 pub mod Examples
 pub mod Order
-pub mod Hidden
+pub mod HiddenPixels
 pub mod Outline
 pub mod Laws
 pub mod Draws

@@ -12,7 +12,7 @@ use Rattle.paper.specs.Slots.{visible, hidden_count}
 use Rattle.paper.specs.Run.{State, new_state, Becomes}
 use Rattle.paper.proofs.Layers.{not_some}
 use Rattle.paper.proofs.Pictures.{Clean}
-use Rattle.paper.proofs.Hidden.{covers_pixel}
+use Rattle.paper.proofs.HiddenPixels.{covers_pixel}
 
 pub screen_clean : (d : Desk) → Clean (screen_of d)
 unfolding screen_of

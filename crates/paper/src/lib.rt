@@ -1,4 +1,6 @@
 //! The desk on paper: definitions that the desk's contracts cite, and laws of them.
+#![tactic(auto)]
+
 ghost use Rattle.paper.specs.Apart.{LayersKeepApart};
 ghost use Rattle.paper.specs.Laws.{DeskLaws};
 

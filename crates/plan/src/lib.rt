@@ -1,4 +1,6 @@
 //! Arrangements of layers and tables of slots, in plain numbers.
+#![tactic(auto)]
+
 mod arrange;
 mod ask;
 mod frame;

@@ -1,9 +1,9 @@
 -- The picture and the bits that are no pixel's settle every word.
-use Rattle.std.proofs.Common.{◌≡◌, ℕ, ◌+◌, ◌-◌, ◌*◌, ◌/◌, ◌%◌, ◌^◌, ◌<◌, ◌≤◌, Bool, true, false, cond, ◌&&◌, ltb, ◌⊎◌, List, length, get_or, sym, refl, ap, ◌∙◌, inl, inr, ⊎_elim, mod-eq_of_lt, arith}
+use Rattle.std.proofs.Common.{◌≡◌, ℕ, ◌+◌, ◌-◌, ◌*◌, ◌/◌, ◌%◌, ◌^◌, ◌<◌, Bool, true, false, ◌&&◌, ltb, List, get_or, sym, ap, ◌∙◌, ⊎_elim, mod-eq_of_lt, arith}
 use Rattle.std.proofs.lemmas.Nat.{div-add-mod', mod_below, div-mul-add, mod-mul-add}
 use Rattle.std.proofs.lemmas.List.{ext_get_or}
-use Rattle.std.proofs.lemmas.Bool.{cases_lt, cases_Bool, cond-true, and_from, and_parts, both_ways, lt-ltb, ltb-true}
-use Rattle.raster.specs.Rules.{total, bit}
+use Rattle.std.proofs.lemmas.Bool.{cases_Bool, cond-true, and_from, and_parts, both_ways, lt-ltb, ltb-true}
+use Rattle.raster.specs.Rules.{bit}
 use Rattle.raster.specs.Picture.{Picture}
 use Rattle.raster.specs.declared.size.Size.{Size}
 use Rattle.raster.proofs.Digits.{bit_below, total_alike, total_bit, bits_all}

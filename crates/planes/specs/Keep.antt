@@ -1,6 +1,6 @@
 -- What planes keep, they keep from call to call.
-use Rattle.std.specs.Prelude.{◌≡◌, refl}
-use Rattle.std.proofs.Common.{sym, subst, ◌∙◌}
+use Rattle.std.specs.Prelude.{refl}
+use Rattle.std.proofs.Common.{subst, ◌∙◌}
 use Rattle.raster.specs.declared.size.Size.{Size}
 use Rattle.planes.specs.Layout.{Kept}
 use Rattle.planes.specs.Means.{words_of, PlanesKept}

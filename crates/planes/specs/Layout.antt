@@ -1,5 +1,5 @@
 -- Planes: how a list of 32-bit words holds the pixels of a bitmap.
-use Rattle.std.specs.Prelude.{◌≡◌, ℕ, ◌+◌, ◌-◌, ◌*◌, ◌/◌, ◌%◌, ◌^◌, ◌<◌, ◌≤◌, min, max, Bool, cond, ◌&&◌, List, length, ◌==◌, ◌≢◌, nat_lt, slice_index}
+use Rattle.std.specs.Prelude.{◌≡◌, ℕ, ◌+◌, ◌-◌, ◌*◌, ◌/◌, ◌%◌, ◌^◌, ◌<◌, ◌≤◌, min, max, cond, ◌&&◌, List, length, ◌==◌, ◌≢◌, nat_lt, slice_index}
 use Rattle.raster.specs.Rules.{total, bit}
 use Rattle.raster.specs.Picture.{Picture}
 use Rattle.raster.specs.declared.size.Size.{Size}

@@ -1,19 +1,19 @@
 -- Planes: where the bits of pixels stand, and what a store changes.
-use Rattle.std.specs.Prelude.{◌≡◌, ℕ, zero, suc, ◌+◌, ◌-◌, ◌*◌, ◌/◌, ◌%◌, ◌^◌, ◌<◌, ◌≤◌, Bool, true, false, cond, ◌&&◌, ◌≢◌, ◌⊎◌, List, length, ◌==◌, bit_and, bit_xor, nat_lt, slice_index, slice_set}
+use Rattle.std.specs.Prelude.{◌≡◌, ℕ, zero, suc, ◌+◌, ◌-◌, ◌*◌, ◌/◌, ◌%◌, ◌^◌, ◌<◌, ◌≤◌, Bool, true, false, cond, ◌&&◌, ◌≢◌, List, length, ◌==◌, bit_and, bit_xor, nat_lt, slice_index, slice_set}
 use Rattle.std.proofs.Math.Path.{refl, ap}
-use Rattle.std.proofs.Common.{sym, subst, ◌∙◌, inl, inr, add_comm, add-mul, mul_comm, mul_assoc, add-zero, zero-add}
+use Rattle.std.proofs.Common.{sym, ◌∙◌, add_comm, add-mul, mul_comm, add-zero}
 use Rattle.std.proofs.Math.Logic.{⊎_elim}
 use Rattle.std.proofs.Math.Nat.{mod-eq_of_lt}
 use native.Mathlib.Omega.{arith}
 use Rattle.std.specs.Int.Bits.{differ, xor_step, xor_zero_r}
-use Rattle.std.proofs.lemmas.Nat.{pow_pos, pow-add, shr_split, shr-shr, shr_high, mod_low, mod_below, mod-pow-add, div-add-mod', mul-add-lt, div-mul-add, mod-mul-add, div_below, shl_whole, and_mask, xor_block}
-use Rattle.std.proofs.lemmas.List.{length-set, get_or-set_same, get_or-set_other, set_past, get_or_read}
-use Rattle.std.proofs.lemmas.Bool.{cases_lt, cases_eq, cases_order, cases_Bool, and_parts, and_from, both_ways, cond-true, cond-false, eqb-true, eq-eqb, ltb-true}
+use Rattle.std.proofs.lemmas.Nat.{pow_pos, shr_split, shr-shr, shr_high, mod_below, div-add-mod', mul-add-lt, div-mul-add, mod-mul-add, div_below, shl_whole, and_mask, xor_block}
+use Rattle.std.proofs.lemmas.List.{length-set, get_or-set_same, get_or-set_other, set_past}
+use Rattle.std.proofs.lemmas.Bool.{cases_lt, cases_eq, cases_Bool, and_parts, and_from, both_ways, cond-true, cond-false, eqb-true, eq-eqb, ltb-true}
 use Rattle.std.proofs.lemmas.Bool.Decides.{nat_tests}
 use Rattle.raster.specs.Rules.{total, bit}
-use Rattle.raster.specs.Picture.{Picture, Sound, painted, with_pixel}
+use Rattle.raster.specs.Picture.{Sound, painted, with_pixel}
 use Rattle.raster.specs.declared.size.Size.{Size}
-use Rattle.planes.specs.Layout.{stride, word_of, bit_of, pixel, laid_out, Carried, Unused, Kept}
+use Rattle.planes.specs.Layout.{stride, word_of, bit_of, pixel, laid_out, Carried, Kept}
 use Rattle.planes.specs.Stored.{with_bit, stored}
 use Rattle.raster.proofs.Paints.{same_picture, cond_less}
 use Rattle.raster.proofs.Digits.{bit_below, bit_under, total_below, total_alike, total_more, bits_all}

@@ -1,5 +1,5 @@
 -- How a pixel is stored, plane by plane.
-use Rattle.std.specs.Prelude.{ℕ, zero, suc, ◌+◌, ◌-◌, ◌*◌, ◌/◌, ◌%◌, ◌^◌, List, set, slice_index, slice_set}
+use Rattle.std.specs.Prelude.{ℕ, zero, suc, ◌+◌, ◌*◌, ◌/◌, ◌%◌, ◌^◌, List, slice_index, slice_set}
 use Rattle.raster.specs.Rules.{bit}
 use Rattle.planes.specs.Layout.{word_of, bit_of}
 

@@ -1,4 +1,6 @@
 //! Planes: a bitmap in a list of 32-bit words, one plane for each bit of a pixel.
+#![tactic(auto)]
+
 mod calls;
 mod laws;
 mod make;

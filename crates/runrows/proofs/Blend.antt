@@ -1,16 +1,16 @@
 -- A working row, combined with a source row pixel by pixel, and what it makes of a picture.
-use Rattle.std.proofs.Common.{◌≡◌, ℕ, ◌+◌, ◌-◌, ◌^◌, ◌<◌, ◌≤◌, min, Bool, true, false, cond, ◌&&◌, eqb, ltb, List, length, get_or, set, sym, refl, ap, ◌∙◌, ⊎_elim, arith}
+use Rattle.std.proofs.Common.{◌≡◌, ℕ, ◌+◌, ◌^◌, ◌<◌, ◌≤◌, min, true, false, cond, ◌&&◌, eqb, ltb, List, length, get_or, set, sym, refl, ap, ◌∙◌, ⊎_elim, arith}
 use Rattle.std.proofs.lemmas.List.{get_or-set_same, get_or-set_other}
 use Rattle.std.proofs.lemmas.Bool.{cases_eq, cases_Bool, cond-true, cond-false, cond_both, and_parts, eqb-true, eq-eqb, ne_eqb, ltb-true}
 use Rattle.std.proofs.lemmas.Bool.Decides.{nat_tests}
 use Rattle.raster.specs.Rules.{combined}
-use Rattle.raster.specs.Picture.{Picture, Sound, painted, with_pixel}
+use Rattle.raster.specs.Picture.{Sound, painted, with_pixel}
 use Rattle.raster.specs.Blits.{between, spans, opposite, inked, mixed, Below}
 use Rattle.raster.specs.declared.size.Size.{Size}
 use Rattle.raster.specs.declared.span.Span.{Span}
 use Rattle.raster.specs.declared.blit.Blit.{Blit}
 use Rattle.raster.proofs.Digits.{combined_below}
-use Rattle.raster.proofs.Paints.{same_picture, painted_at, row_painted}
+use Rattle.raster.proofs.Paints.{same_picture, row_painted}
 use Rattle.runrows.specs.Runs.{run_rows}
 use Rattle.runrows.specs.Writing.{RowWritten}
 use Rattle.runrows.specs.Rows.{written_at}

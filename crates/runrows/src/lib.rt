@@ -1,4 +1,6 @@
 //! Run rows: a bitmap in a list of 16-bit entries, each row as runs of equal pixels.
+#![tactic(auto)]
+
 mod calls;
 mod laws;
 mod make;

@@ -1,4 +1,6 @@
 //! Tables of slots: which slot of a store each patch has, in plain numbers.
+#![tactic(auto)]
+
 mod block;
 mod change;
 mod laws;

@@ -1,4 +1,6 @@
 //! The worked examples, performed on real bitmaps.
+#![tactic(auto)]
+
 mod examples;
 
 use examples::worked_examples;

@@ -1,11 +1,11 @@
-use Rattle.std.proofs.Common.{◌≡◌, ℕ, ◌+◌, ◌*◌, ◌/◌, ◌%◌, ◌<◌, ◌≤◌, sym, ap, ◌∙◌, mul_assoc, mul_comm, arith}
+use Rattle.std.proofs.Common.{◌≡◌, ℕ, ◌*◌, ◌/◌, ◌≤◌, ap, ◌∙◌, mul_assoc, mul_comm, arith}
 use Rattle.std.proofs.lemmas.Nat.{mul-lt, mul-le, div-add-mod'}
 use Rattle.std.proofs.lemmas.Bool.Decides.{nat_tests}
 use Rattle.planes.specs.Layout.{stride}
 use Rattle.planes.proofs.make.carried_rows.Goals as goal
 
-pub nonzero-div-rows : goal.nonzero-div-rows
-nonzero-div-rows c = mul-lt 0 0 (stride c.args.width) c.args.depth (omega arith) (omega arith)
+pub nonzero_div-rows : goal.nonzero_div-rows
+nonzero_div-rows c = mul-lt 0 0 (stride c.args.width) c.args.depth (omega arith) (omega arith)
 
 -- rows that do not pass a quotient have room
 room : (n d m s : ℕ) → m ≤ n / (s * d) → d * m * s ≤ n

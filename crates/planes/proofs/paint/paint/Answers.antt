@@ -13,9 +13,9 @@ pub loop-j-preserved : goal.loop-j-preserved
 loop-j-preserved c =
     let a = c.args in
     let l = c.loop-j in (
-      rows_more a.blit (laid_out a.words.now a.size) (laid_out l.words a.size) (laid_out c.paint-row.new.words a.size)
-          l.j c.turn-k.result c.loop-j-test.true c.turn-k.ensures l.invariant.0 c.paint-row.ensures.after,
-      kept_joins a.size a.words.now l.words c.paint-row.new.words l.invariant.1 c.paint-row.ensures.rest,
+      rows_more a.blit (laid_out a.words.now a.size) (laid_out l.words a.size) (laid_out c.paint_row.new.words a.size)
+          l.j c.turn-k.result c.loop-j-test.true c.turn-k.ensures l.invariant.0 c.paint_row.ensures.after,
+      kept_joins a.size a.words.now l.words c.paint_row.new.words l.invariant.1 c.paint_row.ensures.rest,
     )
 
 pub returns : goal.returns

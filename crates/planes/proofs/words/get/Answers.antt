@@ -5,18 +5,18 @@ use Rattle.planes.specs.Layout.{pixel}
 use Rattle.planes.specs.Store.{read_more}
 use Rattle.planes.proofs.words.get.Goals as goal
 
-pub overflow-add-v : goal.overflow-add-v
-overflow-add-v c =
+pub overflow_add-v : goal.overflow_add-v
+overflow_add-v c =
     let a = c.args in
     omega (
       arith,
-      read_more a.words.now a.size.width a.size.height a.x a.y c.loop-j.j c.loop-j.v c.word-at.result (omega arith) c.loop-j.invariant c.word-at.ensures.value,
+      read_more a.words.now a.size.width a.size.height a.x a.y c.loop-j.j c.loop-j.v c.word_at.result (omega arith) c.loop-j.invariant c.word_at.ensures.value,
     )
 
 pub loop-j-preserved : goal.loop-j-preserved
 loop-j-preserved c =
     let a = c.args in
-    (read_more a.words.now a.size.width a.size.height a.x a.y c.loop-j.j c.loop-j.v c.word-at.result (omega arith) c.loop-j.invariant c.word-at.ensures.value).0
+    (read_more a.words.now a.size.width a.size.height a.x a.y c.loop-j.j c.loop-j.v c.word_at.result (omega arith) c.loop-j.invariant c.word_at.ensures.value).0
 
 pub returns : goal.returns
 unfolding pixel

@@ -1,4 +1,4 @@
-use Rattle.std.proofs.Common.{◌≡◌, ℕ, List, sym, ap, ◌∙◌, subst, arith}
+use Rattle.std.proofs.Common.{ℕ, List, sym, ap, ◌∙◌, subst, arith}
 use Rattle.planes.specs.Layout.{laid_out, Kept}
 use Rattle.planes.specs.Store.{laid_put, stored_kept}
 use Rattle.planes.proofs.words.put.Goals as goal

@@ -1,4 +1,4 @@
-use Rattle.std.proofs.Common.{◌≡◌, refl, arith}
+use Rattle.std.proofs.Common.{refl, arith}
 use Rattle.planes.specs.Layout.{word_of}
 use Rattle.planes.specs.Store.{word_below}
 use Rattle.planes.proofs.words.word_at.Goals as goal

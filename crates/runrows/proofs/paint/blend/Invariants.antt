@@ -1,4 +1,3 @@
-use Rattle.std.proofs.Common.{◌≡◌, ℕ, ◌<◌, length, get_or}
 use Rattle.runrows.proofs.Blend.{Blended}
 use Rattle.runrows.proofs.paint.blend.Given as goal
 

@@ -1,4 +1,4 @@
-use Rattle.std.proofs.Common.{◌≡◌, ℕ, ◌+◌, Bool, true, false, ◌&&◌, ◌||◌, eqb, ltb, sym, refl, ap, ◌∙◌, arith}
+use Rattle.std.proofs.Common.{◌≡◌, ℕ, ◌+◌, Bool, true, false, ◌&&◌, ◌||◌, eqb, sym, refl, ap, ◌∙◌, arith}
 use Rattle.std.proofs.lemmas.Bool.{and_right, and_left, lt-ltb, le-ltb}
 use Rattle.std.proofs.lemmas.Bool.Decides.{nat_tests}
 use Rattle.raster.specs.Blits.{spans, performed}
@@ -27,11 +27,11 @@ pub loop-j-preserved : goal.loop-j-preserved
 loop-j-preserved c =
     let a = c.args in
     let l = c.loop-j in (
-      rows_more a.blit (run_rows a.entries.now a.size) (run_rows l.entries a.size) (run_rows c.paint-row.new.entries a.size)
-          l.j c.turn-k.result c.loop-j-test.true c.turn-k.ensures l.invariant.0 c.paint-row.ensures.after,
-      rewritten_joins a.size (so_far a.blit.rows l.j) (λ b. eqb b (a.blit.rows.first + c.turn-k.result)) _ a.entries.now l.entries c.paint-row.new.entries
+      rows_more a.blit (run_rows a.entries.now a.size) (run_rows l.entries a.size) (run_rows c.paint_row.new.entries a.size)
+          l.j c.turn-k.result c.loop-j-test.true c.turn-k.ensures l.invariant.0 c.paint_row.ensures.after,
+      rewritten_joins a.size (so_far a.blit.rows l.j) (λ b. eqb b (a.blit.rows.first + c.turn-k.result)) _ a.entries.now l.entries c.paint_row.new.entries
           (λ b. so_far_more a.blit.rows l.j b c.loop-j-test.true ∙ ap (λ n. eqb b (a.blit.rows.first + n) || so_far a.blit.rows l.j b) (sym c.turn-k.ensures))
-          l.invariant.1 c.paint-row.ensures.rest,
+          l.invariant.1 c.paint_row.ensures.rest,
     )
 
 pub returns : goal.returns

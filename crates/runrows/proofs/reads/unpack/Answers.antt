@@ -1,4 +1,4 @@
-use Rattle.std.proofs.Common.{◌≡◌, ℕ, ◌∙◌, subst, arith}
+use Rattle.std.proofs.Common.{ℕ, ◌∙◌, subst, arith}
 use Rattle.runrows.specs.Reading.{Onward}
 use Rattle.runrows.proofs.Ahead.{read_more}
 use Rattle.runrows.proofs.reads.unpack.Goals as goal

@@ -1,4 +1,4 @@
-use Rattle.std.proofs.Common.{◌≡◌, ℕ, suc, ◌+◌, ◌^◌, ◌<◌, ◌≤◌, List, length, get_or, set, sym, refl, ap, ◌∙◌, subst, ⊎_elim, arith, pow_mono}
+use Rattle.std.proofs.Common.{◌≡◌, ℕ, ◌^◌, ◌<◌, ◌≤◌, length, get_or, refl, subst, ⊎_elim, arith, pow_mono}
 use Rattle.std.proofs.lemmas.List.{get_or_past}
 use Rattle.std.proofs.lemmas.Bool.{cases_lt}
 use Rattle.runrows.specs.Runs.{Runs}
@@ -8,8 +8,8 @@ use Rattle.runrows.proofs.writes.write_runs.Goals as goal
 pub loop-x-init : goal.loop-x-init
 loop-x-init c = let r = runs_none c.args.depth c.args.row.now c.args.pixels.now in (r.0, r.1, omega arith)
 
-pub add-pixel-n-requires : goal.add-pixel-n-requires
-add-pixel-n-requires c =
+pub add_pixel-n-requires : goal.add_pixel-n-requires
+add_pixel-n-requires c =
     let most : 2 ^ c.args.depth ≤ 2 ^ 4 = pow_mono {j = 4} c.requires.deep in
     record {
       runs = omega arith;
@@ -21,8 +21,8 @@ pub loop-x-preserved : goal.loop-x-preserved
 loop-x-preserved c =
     let most : 2 ^ c.args.depth ≤ 2 ^ 4 = pow_mono {j = 4} c.requires.deep in
     let few = c.requires.small c.loop-x.x c.loop-x-test.true in
-    add_more c.args.depth c.loop-x.row c.add-pixel-n.new.row c.args.pixels.now c.loop-x.n c.add-pixel-n.result (get_or c.args.pixels.now c.loop-x.x 0) c.loop-x.x
-    few (omega (arith, few)) refl c.loop-x.invariant.0 c.loop-x.invariant.1 c.loop-x.invariant.2 (omega arith) c.add-pixel-n.ensures
+    add_more c.args.depth c.loop-x.row c.add_pixel-n.new.row c.args.pixels.now c.loop-x.n c.add_pixel-n.result (get_or c.args.pixels.now c.loop-x.x 0) c.loop-x.x
+    few (omega (arith, few)) refl c.loop-x.invariant.0 c.loop-x.invariant.1 c.loop-x.invariant.2 (omega arith) c.add_pixel-n.ensures
 
 pub loop-k-init : goal.loop-k-init
 loop-k-init c =

@@ -1,4 +1,4 @@
-use Rattle.std.proofs.Common.{◌≡◌, ℕ, List, nat_abs, sym, ap, ◌∙◌, arith}
+use Rattle.std.proofs.Common.{ℕ, List, nat_abs, ap, ◌∙◌, arith}
 use Rattle.std.proofs.lemmas.Result.{err_from_is_err_and}
 use Rattle.std.proofs.lemmas.Int.{to_z-of_z}
 use Rattle.raster.specs.Calls.{read_at}
@@ -7,20 +7,20 @@ use Rattle.planes.specs.Layout.{laid_out}
 use Rattle.planes.specs.Means.{picture_of}
 use Rattle.planes.proofs.calls.PlanesBitmap.read.Goals as goal
 
-pub returns-in-err-column : goal.returns-in-err-column
-returns-in-err-column c =
+pub returns-in_err-column : goal.returns-in_err-column
+returns-in_err-column c =
     let a = c.args in
     let fx = c.ranges.x in
     let fy = c.ranges.y in
-    let p = err_from_is_err_and c.from-residual.result c.from-residual.ensures.1 in
-    rw (p.1, p.2) (place_refused (picture_of a.self.now) (read_at a.x a.y) _ (nat_abs a.x, nat_abs a.y) (simp to_z-of_z at c.in-err-column.ensures)).answer
+    let p = err_from_is_err_and c.from_residual.result c.from_residual.ensures.1 in
+    rw (p.1, p.2) (place_refused (picture_of a.self.now) (read_at a.x a.y) _ (nat_abs a.x, nat_abs a.y) (simp to_z-of_z at c.in_err-column.ensures)).answer
 
 pub get-requires : goal.get-requires
 get-requires c =
     let a = c.args in
     let fx = c.ranges.x in
     let fy = c.ranges.y in
-    let f = read_found (picture_of a.self.now) a.x a.y c.in-ok-column.column c.in-ok-column.row (simp to_z-of_z at c.in-ok-column.ensures) in
+    let f = read_found (picture_of a.self.now) a.x a.y c.in_ok-column.column c.in_ok-column.row (simp to_z-of_z at c.in_ok-column.ensures) in
     record { carried = (omega arith, omega arith, omega arith, omega arith, omega arith); across = f.across; down = f.down }
 
 pub returns : goal.returns
@@ -28,6 +28,6 @@ returns c =
     let a = c.args in
     let fx = c.ranges.x in
     let fy = c.ranges.y in
-    let f = read_found (picture_of a.self.now) a.x a.y c.in-ok-column.column c.in-ok-column.row (simp to_z-of_z at c.in-ok-column.ensures) in
+    let f = read_found (picture_of a.self.now) a.x a.y c.in_ok-column.column c.in_ok-column.row (simp to_z-of_z at c.in_ok-column.ensures) in
     f.answer c.get.result
-    (c.get.ensures ∙ ap (λ (ws : List ℕ). (laid_out ws a.self.now.size).at c.in-ok-column.column c.in-ok-column.row) c.as-slice.ensures.value)
+    (c.get.ensures ∙ ap (λ (ws : List ℕ). (laid_out ws a.self.now.size).at c.in_ok-column.column c.in_ok-column.row) c.as_slice.ensures.value)

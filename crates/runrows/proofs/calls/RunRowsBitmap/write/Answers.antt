@@ -8,13 +8,13 @@ use Rattle.runrows.specs.Means.{picture_of}
 use Rattle.runrows.specs.Keep.{rows_same, untouched, refilled_rows, refilled_rewritten}
 use Rattle.runrows.proofs.calls.RunRowsBitmap.write.Goals as goal
 
-pub returns-in-err-column : goal.returns-in-err-column
-returns-in-err-column c =
+pub returns-in_err-column : goal.returns-in_err-column
+returns-in_err-column c =
     let a = c.args in
     let fx = c.ranges.x in
     let fy = c.ranges.y in
-    let p = err_from_is_err_and c.from-residual.result c.from-residual.ensures.1 in
-    let r = place_refused (picture_of a.self.now) (write_at a.x a.y a.v) _ (nat_abs a.x, nat_abs a.y) (simp to_z-of_z at c.in-err-column.ensures) in
+    let p = err_from_is_err_and c.from_residual.result c.from_residual.ensures.1 in
+    let r = place_refused (picture_of a.self.now) (write_at a.x a.y a.v) _ (nat_abs a.x, nat_abs a.y) (simp to_z-of_z at c.in_err-column.ensures) in
     rw (p.1, p.2) (record { answer = r.answer; after = r.after; rest = rows_same a.self.now; refused = refl; entries = untouched a.self.now _ r.rows })
 
 pub put-requires : goal.put-requires
@@ -22,7 +22,7 @@ put-requires c =
     let a = c.args in
     let fx = c.ranges.x in
     let fy = c.ranges.y in
-    let f = write_found (picture_of a.self.now) a.x a.y a.v c.in-ok-column.column c.in-ok-column.row (simp to_z-of_z at c.in-ok-column.ensures) in
+    let f = write_found (picture_of a.self.now) a.x a.y a.v c.in_ok-column.column c.in_ok-column.row (simp to_z-of_z at c.in_ok-column.ensures) in
     record { carried = (omega arith, omega arith, omega arith, omega arith, omega arith); across = f.across; down = f.down; small = f.small }
 
 pub returns : goal.returns
@@ -31,14 +31,14 @@ returns c =
     let s = a.self.now in
     let fx = c.ranges.x in
     let fy = c.ranges.y in
-    let column : ℕ = c.in-ok-column.column in
-    let row : ℕ = c.in-ok-column.row in
-    let f = write_found (picture_of s) a.x a.y a.v column row (simp to_z-of_z at c.in-ok-column.ensures) in
-    let long : length c.put.new.entries ≡ vec_len s.entries = c.put.auto.entries ∙ c.as-mut-slice.ensures.len in
-    let kept = refilled_rewritten s.entries c.as-mut-slice.result.now c.put.new.entries s.size c.as-mut-slice.ensures.value long (λ z. eqb z row) _ f.rows c.put.ensures.rest in
+    let column : ℕ = c.in_ok-column.column in
+    let row : ℕ = c.in_ok-column.row in
+    let f = write_found (picture_of s) a.x a.y a.v column row (simp to_z-of_z at c.in_ok-column.ensures) in
+    let long : length c.put.new.entries ≡ vec_len s.entries = c.put.auto.entries ∙ c.as_mut_slice.ensures.len in
+    let kept = refilled_rewritten s.entries c.as_mut_slice.result.now c.put.new.entries s.size c.as_mut_slice.ensures.value long (λ z. eqb z row) _ f.rows c.put.ensures.rest in
     record {
       answer = f.answer;
-      after = f.after _ (refilled_rows s.entries c.as-mut-slice.result.now c.put.new.entries s.size c.as-mut-slice.ensures.value long (λ p. with_pixel p column row a.v) c.put.ensures.after);
+      after = f.after _ (refilled_rows s.entries c.as_mut_slice.result.now c.put.new.entries s.size c.as_mut_slice.ensures.value long (λ p. with_pixel p column row a.v) c.put.ensures.after);
       rest = (_, record { size = refl; entries = kept });
       refused = tt;
       entries = record { size = refl; entries = kept };

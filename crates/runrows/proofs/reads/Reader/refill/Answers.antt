@@ -2,8 +2,8 @@ use Rattle.std.proofs.Common.{refl, arith, ltb-false, ltb-true}
 use Rattle.runrows.proofs.Ahead.{row_ended, entry_taken}
 use Rattle.runrows.proofs.reads.Reader.refill.Goals as goal
 
-pub returns-in-default : goal.returns-in-default
-returns-in-default c =
+pub returns-in_default : goal.returns-in_default
+returns-in_default c =
     let s = c.args.self.now in
     record { depth = refl; refilled = row_ended s.depth s.left s.value s.rest.now c.if-self-gt0.false (omega (arith, ltb-true, ltb-false)) }
 
