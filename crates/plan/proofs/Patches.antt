@@ -1,14 +1,14 @@
 -- A patch is hidden exactly if its rectangle is not on the screen as a whole, or meets that of a higher layer.
-use Rattle.std.proofs.Common.{◌≡◌, ℕ, zero, suc, ◌+◌, ◌-◌, ◌*◌, ◌<◌, ◌≤◌, min, Bool, true, false, cond, not, ◌&&◌, ◌||◌, eqb, ltb, ◌⊎◌, List, [], ◌∷◌, get_or, ℤ, pos, ◌+ℤ◌, ◌-ℤ◌, nat_abs, sym, refl, ap, ◌∙◌, ap₂, inl, inr, ⊎_elim, arith}
-use lib.Signed.{le_z, lt_z}
+use Rattle.std.proofs.Common.{◌≡◌, ℕ, zero, suc, ◌+◌, ◌-◌, ◌*◌, ◌<◌, ◌≤◌, min, Bool, true, false, cond, not, ◌&&◌, ◌||◌, eqb, ltb, ◌⊎◌, List, [], ◌∷◌, get_or, ℤ, pos, ◌+ℤ◌, ◌-ℤ◌, nat_abs, sym, refl, ap, ◌∙◌, inl, inr, ⊎_elim, arith}
+use lib.Signed.{le_z}
 use Rattle.std.proofs.lemmas.Int.{ints}
-use Rattle.std.proofs.lemmas.Bool.{and_parts, and_from, and_cases, and_left, and_right, le-ltb, or_left, or_right, or_cases, or_parts, eqb-true, not-true, not_from_false, not_from_true, cases_Bool, cases_lt, lt-ltb, ltb-true, false≢true, true≢false}
+use Rattle.std.proofs.lemmas.Bool.{and_parts, and_from, and_cases, and_left, and_right, le-ltb, or_left, or_right, or_cases, or_parts, eqb-true, not-true, not_from_false, cases_Bool, cases_lt, lt-ltb, ltb-true, false≢true, true≢false}
 use Rattle.std.proofs.lemmas.Bool.Decides.{nat_tests}
-use Rattle.raster.specs.Blt.{holds, in_rectangle, inside}
+use Rattle.raster.specs.Blt.{holds, inside}
 use Rattle.raster.specs.Calls.{any_below}
 use Rattle.raster.specs.declared.size.Size.{Size}
 use Rattle.paper.specs.Layers.{Layer, covers, covered}
-use Rattle.paper.specs.Slots.{visible, obscured, hidden, hidden_in}
+use Rattle.paper.specs.Slots.{obscured, hidden, hidden_in}
 use Rattle.plan.specs.declared.frame.Frame.{Frame}
 use Rattle.plan.specs.Frames.{no_frame, has}
 use Rattle.plan.specs.Plans.{outline, outlines, above}

@@ -1,9 +1,9 @@
 -- Where a visible pixel lies on the screen.
-use Rattle.std.proofs.Common.{◌≡◌, ℕ, ◌<◌, Bool, true, false, cond, not, ◌&&◌, T, ℤ, pos, negsuc, ◌+ℤ◌, nat_abs, Some, None, Option, sym, refl, ap, ◌∙◌, subst, arith, w16, Fits}
+use Rattle.std.proofs.Common.{◌≡◌, ℕ, ◌<◌, Bool, true, cond, not, ◌&&◌, T, ℤ, pos, negsuc, ◌+ℤ◌, nat_abs, Some, None, Option, sym, ap, ◌∙◌, arith, w16, Fits}
 use lib.Signed.{non_neg}
 use Rattle.std.proofs.lemmas.Int.{ints}
 use Rattle.std.proofs.lemmas.Bool.Decides.{nat_tests}
-use Rattle.std.proofs.lemmas.Bool.{and_parts, true≢false, ltb-true}
+use Rattle.std.proofs.lemmas.Bool.{and_parts, true≢false}
 use Rattle.raster.specs.Blt.{holds, inside}
 use Rattle.paper.specs.Layers.{covered}
 use Rattle.plan.specs.declared.frame.Frame.{Frame}

@@ -1,5 +1,5 @@
 -- Loops over the clients of an arrangement: what is left of them at a turn, and at the end.
-use Rattle.std.proofs.Common.{◌≡◌, ℕ, ◌+◌, ◌<◌, ◌≤◌, Bool, true, false, cond, ◌&&◌, ◌||◌, eqb, List, [], ◌∷◌, length, get_or, take, drop, ℤ, pos, ◌+ℤ◌, Some, None, Option, sym, refl, ap, ◌∙◌, ap₂, arith, w16, w32, SFits, to_z, of_z}
+use Rattle.std.proofs.Common.{◌≡◌, ℕ, ◌+◌, ◌<◌, ◌≤◌, Bool, true, false, cond, ◌&&◌, ◌||◌, List, [], ◌∷◌, length, get_or, take, drop, ℤ, pos, ◌+ℤ◌, Some, None, Option, refl, ap, ◌∙◌, ap₂, arith, w16, w32, SFits, to_z, of_z}
 use Rattle.std.proofs.lemmas.List.{at_drop_more, at_drop_all, length-take-le, get_or-take}
 use Rattle.std.proofs.lemmas.Int.{ints}
 use Rattle.std.proofs.lemmas.Bool.Decides.{nat_tests}
@@ -7,8 +7,8 @@ use Rattle.raster.specs.Blt.{holds, in_rectangle}
 use Rattle.paper.specs.Layers.{Layer, or_else, covers, covered, topmost}
 use Rattle.paper.specs.Desk.{client_if}
 use Rattle.plan.specs.declared.frame.Frame.{Frame}
-use Rattle.plan.specs.Frames.{no_frame, has}
-use Rattle.plan.specs.Plans.{outline, outlines, above}
+use Rattle.plan.specs.Frames.{no_frame}
+use Rattle.plan.specs.Plans.{outline, outlines}
 use Rattle.plan.specs.Areas.{reaches, meets, met}
 
 -- ── Any function of what is left ──

@@ -1,5 +1,5 @@
 -- What becomes of an arrangement when layers are opened, closed, moved or put in another order.
-use Rattle.std.specs.Prelude.{◌≡◌, ℕ, ◌<◌, ◌≤◌, Bool, not, ◌&&◌, List, ℤ, filter, ◌==◌, ◌≢◌, nat_lt}
+use Rattle.std.specs.Prelude.{◌≡◌, ℕ, Bool, not, ◌&&◌, List, ℤ, filter, ◌==◌, ◌≢◌, nat_lt}
 use Rattle.paper.specs.Layers.{Layer}
 use Rattle.plan.specs.declared.frame.Frame.{Frame}
 use Rattle.plan.specs.declared.plan.Plan.{Plan}

@@ -1,5 +1,5 @@
 -- Frames of layers and tables of slots, as plain lists.
-use Rattle.std.specs.Prelude.{◌≡◌, ℕ, ◌+◌, ◌*◌, ◌/◌, ◌%◌, ◌<◌, Bool, true, false, cond, not, ◌&&◌, ◌||◌, List, [], ◌∷◌, pos, ◌==◌, slice_index, slice_index_or}
+use Rattle.std.specs.Prelude.{◌≡◌, ℕ, ◌<◌, Bool, true, false, not, ◌&&◌, ◌||◌, List, [], ◌∷◌, pos, ◌==◌, slice_index, slice_index_or}
 use Rattle.plan.specs.declared.frame.Frame.{Frame}
 
 abbrev pub no_frame : Frame

@@ -1,7 +1,6 @@
 -- Arrangements of layers, and which of their patches are hidden and have slots, over the definitions of the desk on paper.
-use Rattle.std.specs.Prelude.{◌≡◌, ℕ, ◌+◌, ◌*◌, ◌/◌, ◌%◌, ◌<◌, Bool, true, false, cond, not, ◌&&◌, ◌||◌, List, [], ◌∷◌, take, ◌==◌, nat_lt, slice_index, slice_index_or}
-use Rattle.raster.specs.declared.size.Size.{Size}
-use Rattle.paper.specs.Layers.{Layer, Desk}
+use Rattle.std.specs.Prelude.{◌≡◌, ℕ, ◌+◌, ◌*◌, ◌/◌, ◌%◌, ◌<◌, Bool, cond, ◌&&◌, ◌||◌, List, [], ◌∷◌, take, ◌==◌, nat_lt, slice_index, slice_index_or}
+use Rattle.paper.specs.Layers.{Layer}
 use Rattle.paper.specs.Slots.{visible, hidden_in}
 use Rattle.paper.specs.Desk.{new_layer}
 use Rattle.plan.specs.declared.frame.Frame.{Frame}

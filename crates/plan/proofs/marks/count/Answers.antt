@@ -1,4 +1,4 @@
-use Rattle.std.proofs.Common.{◌≡◌, ℕ, ◌+◌, ◌<◌, Bool, true, false, get_or, sym, ap, ◌∙◌, arith, rules}
+use Rattle.std.proofs.Common.{◌≡◌, ℕ, Bool, false, get_or, ap, ◌∙◌, arith}
 use Rattle.plan.specs.Allots.{counted}
 use Rattle.plan.proofs.Counts.{counted_none, counted_yes, counted_no, counted_most}
 use Rattle.plan.proofs.marks.count.Goals as goal
@@ -7,8 +7,8 @@ use Rattle.plan.proofs.marks.count.Goals.{then-marks-k, else-marks-k}
 pub loop-k-init : goal.loop-k-init
 loop-k-init c = counted_none (λ k. get_or c.args.marks.now k false)
 
-pub overflow-add-n : goal.overflow-add-n
-overflow-add-n c =
+pub overflow_add-n : goal.overflow_add-n
+overflow_add-n c =
     let m = counted_most (λ k. get_or c.args.marks.now k false) c.loop-k.k in
     let e = c.loop-k.invariant in
     record { fits = omega arith }

@@ -1,25 +1,25 @@
-use Rattle.std.proofs.Common.{◌≡◌, sym, refl, ap, ◌∙◌, arith, rules}
+use Rattle.std.proofs.Common.{sym, refl, ap, ◌∙◌, arith}
 use Rattle.std.proofs.lemmas.Bool.{both_ways}
-use Rattle.plan.specs.Frames.{has, distinct}
+use Rattle.plan.specs.Frames.{distinct}
 use Rattle.plan.specs.Plans.{listed}
 use Rattle.plan.proofs.Orders.{others_distinct, without_outlines, others_have}
 use Rattle.plan.proofs.Sifts.{arranged, same_frames, open_low, open_room, closed_same}
 use Rattle.plan.proofs.plan.Plan.closed.Goals as goal
 
-pub returns-then-not-is-open : goal.returns-then-not-is-open
-returns-then-not-is-open c =
+pub returns-then-not-is_open : goal.returns-then-not-is_open
+returns-then-not-is_open c =
     let p = c.args.self.now in
-    record { arranged = closed_same p c.args.c (sym c.if-not-is-open.ensures); frames = λ d. refl; same = λ _. refl }
+    record { arranged = closed_same p c.args.c (sym c.if-not-is_open.ensures); frames = λ d. refl; same = λ _. refl }
 
 pub sifted-count-requires : goal.sifted-count-requires
 sifted-count-requires c =
     let p = c.args.self.now in
-    let h = sym c.if-not-is-open.ensures in
+    let h = sym c.if-not-is_open.ensures in
     (open_low p c.args.c h, omega (arith, open_room p c.args.c h))
 
 pub reordered-requires : goal.reordered-requires
 reordered-requires c =
-    let e = c.sifted_count.ensures in
+    let e = c.sifted-count.ensures in
     (e.few, (e.low, ap distinct e.order ∙ others_distinct c.args.c (listed c.args.self.now) c.args.self.now.once))
 
 pub returns : goal.returns
@@ -27,8 +27,8 @@ returns c =
     let p = c.args.self.now in
     let e = c.reordered.ensures in
     record {
-      arranged = arranged p c.reordered.result _ _ _ e.screen e.frames (e.order ∙ c.sifted_count.ensures.order)
+      arranged = arranged p c.reordered.result _ _ _ e.screen e.frames (e.order ∙ c.sifted-count.ensures.order)
           (sym (without_outlines c.args.c (listed p) p.frames)) (λ d. others_have c.args.c d (listed p));
       frames = same_frames p c.reordered.result e.frames;
-      same = λ n. absurd (both_ways _ n (sym c.if-not-is-open.ensures));
+      same = λ n. absurd (both_ways _ n (sym c.if-not-is_open.ensures));
     }

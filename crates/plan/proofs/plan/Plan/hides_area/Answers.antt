@@ -1,6 +1,6 @@
-use Rattle.std.proofs.Common.{◌≡◌, ℕ, ◌+◌, ◌<◌, ◌≤◌, min, Bool, true, false, not, ◌||◌, ◌⊎◌, ℤ, pos, ◌+ℤ◌, sym, refl, ap, ◌∙◌, inl, inr, ⊎_elim, arith, w16, SFits, rules}
+use Rattle.std.proofs.Common.{◌≡◌, ◌+◌, min, not, pos, ◌+ℤ◌, sym, ap, ◌∙◌, inl, inr, ⊎_elim, arith, w16, SFits, rules}
 use Rattle.plan.specs.Plans.{above, layers_in, frame_in}
-use Rattle.plan.specs.Areas.{on_screen, met, hidden_area}
+use Rattle.plan.specs.Areas.{on_screen, met}
 use Rattle.plan.proofs.Turns.{summed, wide_sum}
 use Rattle.plan.proofs.Patches.{no_area, area_is, either_first, either_second}
 use Rattle.plan.proofs.plan.Plan.hides_area.Goals as goal
@@ -47,4 +47,4 @@ returns-else-not-holds c =
     (wide_sum f.x c.args.u fx (omega (arith, c.requires.0))) (wide_sum f.y c.args.v fy (omega (arith, c.requires.1)))
     (wide_sum f.x c.min.result fx (omega (arith, c.requires.0)) ∙ ap (λ k. f.x +ℤ pos k) er)
     (wide_sum f.y c.min-2.result fy (omega (arith, c.requires.1)) ∙ ap (λ k. f.y +ℤ pos k) eb) in
-    c.meets-above.ensures ∙ either_second (on_screen p.screen left top right bottom) (met hi left top right bottom) (sym c.holds.ensures ∙ c.if-not-holds.false) ∙ is
+    c.meets_above.ensures ∙ either_second (on_screen p.screen left top right bottom) (met hi left top right bottom) (sym c.holds.ensures ∙ c.if-not-holds.false) ∙ is

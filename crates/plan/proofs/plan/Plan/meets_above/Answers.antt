@@ -1,8 +1,8 @@
-use Rattle.std.proofs.Common.{◌≡◌, ℕ, ◌+◌, ◌≤◌, Bool, true, false, ◌||◌, List, length, get_or, take, drop, sym, ap, ◌∙◌, arith, w32, rules}
+use Rattle.std.proofs.Common.{◌≡◌, ◌+◌, ◌≤◌, true, false, ◌||◌, length, get_or, drop, sym, ap, ◌∙◌, arith, rules}
 use Rattle.std.proofs.lemmas.Int.{to_z-of_z}
 use Rattle.std.proofs.lemmas.Bool.{or_left}
 use Rattle.plan.specs.Frames.{no_frame}
-use Rattle.plan.specs.Plans.{listed, layers_in, outlines, above, outline}
+use Rattle.plan.specs.Plans.{listed, outlines}
 use Rattle.plan.specs.Areas.{meets, met}
 use Rattle.plan.proofs.Turns.{turn, turned}
 use Rattle.plan.proofs.plan.Plan.meets_above.Goals as goal

@@ -1,4 +1,4 @@
-use Rattle.std.proofs.Common.{◌≡◌, ℕ, ◌<◌, length, get_or, set, sym, refl, ap, ◌∙◌, arith, rules}
+use Rattle.std.proofs.Common.{get_or, sym, refl, ◌∙◌}
 use Rattle.std.proofs.lemmas.Int.{to_z-of_z}
 use Rattle.std.proofs.lemmas.Bool.{both_ways}
 use Rattle.plan.specs.Frames.{no_frame}
@@ -7,9 +7,9 @@ use Rattle.plan.proofs.Sifts.{open_low, moved_same, set_narrow, set_short, set_o
 use Rattle.std.proofs.lemmas.List.{length-set}
 use Rattle.plan.proofs.plan.Plan.moved.Goals as goal
 
-pub returns-then-not-is-open : goal.returns-then-not-is-open
-returns-then-not-is-open c =
-    let n = sym c.if-not-is-open.ensures in
+pub returns-then-not-is_open : goal.returns-then-not-is_open
+returns-then-not-is_open c =
+    let n = sym c.if-not-is_open.ensures in
     record {
       arranged = moved_same c.args.self.now c.args.c n c.args.x c.args.y;
       frames = λ d _. refl;
@@ -18,23 +18,28 @@ returns-then-not-is-open c =
     }
 
 pub bounds-frames-c : goal.bounds-frames-c
-bounds-frames-c c = open_low c.args.self.now c.args.c (sym c.if-not-is-open.ensures)
+bounds-frames-c c = open_low c.args.self.now c.args.c (sym c.if-not-is_open.ensures)
 
 pub bounds-frames-c-2 : goal.bounds-frames-c-2
-bounds-frames-c-2 c = open_low c.args.self.now c.args.c (sym c.if-not-is-open.ensures)
+bounds-frames-c-2 c = open_low c.args.self.now c.args.c (sym c.if-not-is_open.ensures)
 
-pub invariant-of-result : goal.invariant-of-result
-invariant-of-result c =
+pub invariant_of-result : goal.invariant_of-result
+invariant_of-result c =
     let p = c.args.self.now in
-    let h = open_low p c.args.c (sym c.if-not-is-open.ensures) in (
-      length-set p.frames c.args.c _ ∙ p.long,
-      (p.few, (p.low, (p.once, (set_narrow p c.args.c _ h (p.narrow c.args.c), (set_short p c.args.c _ h (p.short c.args.c), tt))))),
-    )
+    let h = open_low p c.args.c (sym c.if-not-is_open.ensures) in
+    record {
+      long = length-set p.frames c.args.c _ ∙ p.long;
+      few = p.few;
+      low = p.low;
+      once = p.once;
+      narrow = set_narrow p c.args.c _ h (p.narrow c.args.c);
+      short = set_short p c.args.c _ h (p.short c.args.c);
+    }
 
 pub returns : goal.returns
 returns c =
     let p = c.args.self.now in
-    let h = sym c.if-not-is-open.ensures in
+    let h = sym c.if-not-is_open.ensures in
     let fx = c.ranges.x in let fy = c.ranges.y in
     record {
       arranged = record { screen = refl; layers = simp to_z-of_z (moved_layers p c.args.c c.args.x c.args.y h); clients = λ d. refl };

@@ -1,4 +1,4 @@
-use Rattle.std.proofs.Common.{◌≡◌, ℕ, ◌+◌, ◌<◌, ◌≤◌, List, [], ◌∷◌, ◌++◌, length, get_or, take, set, sym, refl, ap, ◌∙◌, arith, rules}
+use Rattle.std.proofs.Common.{◌≡◌, ℕ, ◌+◌, ◌<◌, [], ◌∷◌, ◌++◌, length, get_or, take, set, sym, refl, ap, ◌∙◌, arith, rules}
 use Rattle.std.proofs.lemmas.List.{length-set, take_more_set}
 use Rattle.std.proofs.lemmas.Bool.{both_ways}
 use Rattle.plan.specs.declared.frame.Frame.{Frame}
@@ -23,34 +23,30 @@ pub bounds-order-self : goal.bounds-order-self
 bounds-order-self c =
     let p = c.args.self.now in
     let k : length p.order ≡ 8 = search rules in
-    room p c.args.c c.args.frame (opens p c.args.c c.args.frame (sym c.if-not-can-open.ensures)) k
+    room p c.args.c c.args.frame (opens p c.args.c c.args.frame (sym c.if-not-can_open.ensures)) k
 
-pub invariant-of-result : goal.invariant-of-result
-invariant-of-result c =
+pub invariant_of-result : goal.invariant_of-result
+invariant_of-result c =
     let p = c.args.self.now in
     let k : length p.order ≡ 8 = search rules in
     let f = c.args.frame in
-    let o = opens p c.args.c f (sym c.if-not-can-open.ensures) in
-    let r = room p c.args.c f o k in (
-      length-set p.frames c.args.c f ∙ p.long,
-      (
-        omega arith,
-        (
-          low p c.args.c f o k,
-          (
-            ap distinct (order p c.args.c f o k) ∙ distinct_last c.args.c (listed p) p.once o.none,
-            (set_narrow p c.args.c f o.client o.narrow, (set_short p c.args.c f o.client o.short, tt)),
-          ),
-        ),
-      ),
-    )
+    let o = opens p c.args.c f (sym c.if-not-can_open.ensures) in
+    let r = room p c.args.c f o k in
+    record {
+      long = length-set p.frames c.args.c f ∙ p.long;
+      few = omega arith;
+      low = low p c.args.c f o k;
+      once = ap distinct (order p c.args.c f o k) ∙ distinct_last c.args.c (listed p) p.once o.none;
+      narrow = set_narrow p c.args.c f o.client o.narrow;
+      short = set_short p c.args.c f o.client o.short;
+    }
 
 pub returns : goal.returns
 returns c =
     let p = c.args.self.now in
     let k : length p.order ≡ 8 = search rules in
     let f = c.args.frame in
-    let h = sym c.if-not-can-open.ensures in
+    let h = sym c.if-not-can_open.ensures in
     let o = opens p c.args.c f h in
     let e = order p c.args.c f o k in
     record {

@@ -1,4 +1,4 @@
-use Rattle.std.proofs.Common.{◌≡◌, true, pos, refl, arith, w16, SFits, rules}
+use Rattle.std.proofs.Common.{◌≡◌, true, pos, refl, w16, SFits, rules}
 use Rattle.raster.specs.Blt.{holds}
 use Rattle.plan.proofs.Turns.{summed, wide_sum}
 use Rattle.plan.proofs.Sights.{held_fits, on_screen, seen_at}
@@ -12,11 +12,11 @@ passed c =
     on_screen c.args.self.now c.args.c (summed c.frame-frame.result.x c.args.u) (summed c.frame-frame.result.y c.args.v)
     c.if-uncovered.ensures.answer
 
-pub overflow-cast-result : goal.overflow-cast-result
-overflow-cast-result c = held_fits c.args.self.now.screen.width _ (c.if-uncovered.ensures.small refl).0 (passed c).0
+pub overflow_cast-result : goal.overflow_cast-result
+overflow_cast-result c = held_fits c.args.self.now.screen.width _ (c.if-uncovered.ensures.small refl).0 (passed c).0
 
-pub overflow-cast-result-then-uncovered : goal.overflow-cast-result-then-uncovered
-overflow-cast-result-then-uncovered c = held_fits c.args.self.now.screen.height _ (c.if-uncovered.ensures.small refl).1 (passed c).1
+pub overflow_cast-result-then-uncovered : goal.overflow_cast-result-then-uncovered
+overflow_cast-result-then-uncovered c = held_fits c.args.self.now.screen.height _ (c.if-uncovered.ensures.small refl).1 (passed c).1
 
 pub returns-then-uncovered : goal.returns-then-uncovered
 returns-then-uncovered c =

@@ -1,4 +1,4 @@
-use Rattle.std.proofs.Common.{◌≡◌, ℕ, ◌+◌, ◌≤◌, Bool, true, false, cond, List, length, get_or, take, drop, ℤ, pos, ◌+ℤ◌, Some, None, Option, sym, ap, ◌∙◌, arith, w16, w32, rules}
+use Rattle.std.proofs.Common.{◌≡◌, ◌+◌, ◌≤◌, cond, length, get_or, drop, pos, ◌+ℤ◌, Some, sym, ap, ◌∙◌, arith, rules}
 use Rattle.std.proofs.lemmas.Int.{to_z-of_z}
 use Rattle.paper.specs.Layers.{covers}
 use Rattle.plan.specs.Frames.{no_frame}

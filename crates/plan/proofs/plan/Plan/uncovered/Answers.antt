@@ -13,11 +13,11 @@ next_fits x f h = omega (arith, ints)
 next_is : (x : ℤ) → SFits w32 x → nat_abs x < 65536 → to_z w32 (of_z w32 (to_z w32 (of_z w32 x) +ℤ pos 1)) ≡ x +ℤ pos 1
 next_is x f h = omega (arith, ints)
 
-pub overflow-add-x : goal.overflow-add-x
-overflow-add-x c = let fx = c.ranges.x in next_fits c.args.x fx (rw (to_z-of_z w32 c.args.x fx) at (c.if-not-shows.ensures.small refl).0)
+pub overflow_add-x : goal.overflow_add-x
+overflow_add-x c = let fx = c.ranges.x in next_fits c.args.x fx (rw (to_z-of_z w32 c.args.x fx) at (c.if-not-shows.ensures.small refl).0)
 
-pub overflow-add-y : goal.overflow-add-y
-overflow-add-y c = let fy = c.ranges.y in next_fits c.args.y fy (rw (to_z-of_z w32 c.args.y fy) at (c.if-not-shows.ensures.small refl).1)
+pub overflow_add-y : goal.overflow_add-y
+overflow_add-y c = let fy = c.ranges.y in next_fits c.args.y fy (rw (to_z-of_z w32 c.args.y fy) at (c.if-not-shows.ensures.small refl).1)
 
 pub returns : goal.returns
 returns c =
@@ -27,7 +27,7 @@ returns c =
     let hx = rw ex at (c.if-not-shows.ensures.small refl).0 in let hy = rw ey at (c.if-not-shows.ensures.small refl).1 in
     let nx = next_is x fx hx in let ny = next_is y fy hy in
     let on : true ≡ inside p.screen x y = search (rules, ex, ey) in
-    let hit : c.meets-above.result ≡ met (above c.args.c (layers_in p)) x y (x +ℤ pos 1) (y +ℤ pos 1) = search (rules, ex, ey, nx, ny) in
+    let hit : c.meets_above.result ≡ met (above c.args.c (layers_in p)) x y (x +ℤ pos 1) (y +ℤ pos 1) = search (rules, ex, ey, nx, ny) in
     record {
       answer = ap not (hit ∙ met_place (above c.args.c (layers_in p)) x y) ∙ ap (λ b. b && not (covered (above c.args.c (layers_in p)) x y)) on;
       small = λ _. (hx, hy);

@@ -1,7 +1,6 @@
-use Rattle.std.proofs.Common.{◌≡◌, ℕ, ◌+◌, ◌<◌, Bool, true, false, sym, ap, ◌∙◌, arith, rules}
+use Rattle.std.proofs.Common.{◌∙◌, arith}
 use Rattle.std.proofs.lemmas.Bool.{lt-ltb, le-ltb}
 use Rattle.plan.specs.Plans.{has_slot}
-use Rattle.plan.specs.Allots.{counted}
 use Rattle.plan.proofs.Counts.{counted_none, counted_yes, counted_no, counted_most}
 use Rattle.plan.proofs.slots.Slots.used.Goals as goal
 use Rattle.plan.proofs.slots.Slots.used.Goals.{then-self-k, else-self-k}
@@ -9,8 +8,8 @@ use Rattle.plan.proofs.slots.Slots.used.Goals.{then-self-k, else-self-k}
 pub loop-k-init : goal.loop-k-init
 loop-k-init c = counted_none (has_slot c.args.self.now)
 
-pub overflow-add-n : goal.overflow-add-n
-overflow-add-n c =
+pub overflow_add-n : goal.overflow_add-n
+overflow_add-n c =
     let m = counted_most (has_slot c.args.self.now) c.loop-k.k in
     let e = c.loop-k.invariant in
     record { fits = omega arith }
