@@ -1,5 +1,5 @@
 -- Drawings on one layer: one after another, and of a single pixel.
-use Rattle.std.proofs.Common.{◌≡◌, ℕ, ◌^◌, ◌<◌, Bool, true, false, cond, ◌&&◌, eqb, ltb, [], pos, Some, Option, sym, refl, ap, ◌∙◌, subst, ap₂, arith, pow_mono}
+use Rattle.std.proofs.Common.{◌≡◌, ℕ, ◌^◌, ◌<◌, Bool, true, false, cond, ◌&&◌, eqb, ltb, pos, Some, Option, sym, refl, ap, ◌∙◌, subst, ap₂, arith, pow_mono}
 use Rattle.std.proofs.lemmas.Bool.{both_ways, and_parts, and_from, or_left, eqb-true, eq-eqb, lt-ltb}
 use Rattle.raster.specs.Picture.{Picture, sizes, painted, with_pixel}
 use Rattle.raster.specs.Blt.{inside}

@@ -1,5 +1,5 @@
 -- Single pixels of a bitmap by unsigned coordinates, which are cut at 1024 for its calls.
-use Rattle.std.proofs.Common.{◌≡◌, ℕ, ◌<◌, ◌≤◌, min, true, ◌⊎◌, ℤ, pos, Ok, Err, Result, sym, ap, ◌∙◌, ap₂, inl, inr, ⊎_elim, arith, w16, to_z, of_z}
+use Rattle.std.proofs.Common.{◌≡◌, ℕ, ◌<◌, ◌≤◌, min, true, ℤ, pos, Ok, Err, Result, sym, ap, ◌∙◌, ap₂, inl, inr, ⊎_elim, arith, w16, to_z, of_z}
 use Rattle.std.proofs.lemmas.Int.{ints, to_z_pos}
 use Rattle.std.proofs.lemmas.Bool.Decides.{nat_tests}
 use Rattle.std.proofs.lemmas.Bool.{cases_lt, lt-leb}

@@ -16,11 +16,11 @@ loop-j-preserved g c =
     let l = c.loop-j in (
       λ w f.
           rows_go_on a.plan.now a.slots.now a.c w.opened (g.S.Bitmap.picture a.screen.now) (g.T.Bitmap.picture a.store.now) a.blit
-          (g.S.Bitmap.picture l.screen) (g.T.Bitmap.picture l.store) (g.S.Bitmap.picture c.paint-row.new.screen) (g.T.Bitmap.picture c.paint-row.new.store)
-          l.j c.turn-k.result c.saturating-add-from.result c.saturating-add-y.result f w c.loop-j-test.true c.turn-k.ensures
-          c.saturating-add-y.ensures c.saturating-add-from.ensures (l.invariant.0 w f) c.paint-row.ensures.drawn,
-      g.met.S.Bitmap.joins a.screen.now l.screen c.paint-row.new.screen l.invariant.1 c.paint-row.ensures.screen,
-      g.met.T.Bitmap.joins a.store.now l.store c.paint-row.new.store l.invariant.2 c.paint-row.ensures.store,
+          (g.S.Bitmap.picture l.screen) (g.T.Bitmap.picture l.store) (g.S.Bitmap.picture c.paint_row.new.screen) (g.T.Bitmap.picture c.paint_row.new.store)
+          l.j c.turn-k.result c.saturating_add-from.result c.saturating_add-y.result f w c.loop-j-test.true c.turn-k.ensures
+          c.saturating_add-y.ensures c.saturating_add-from.ensures (l.invariant.0 w f) c.paint_row.ensures.drawn,
+      g.met.S.Bitmap.joins a.screen.now l.screen c.paint_row.new.screen l.invariant.1 c.paint_row.ensures.screen,
+      g.met.T.Bitmap.joins a.store.now l.store c.paint_row.new.store l.invariant.2 c.paint_row.ensures.store,
     )
 
 pub returns : goal.returns

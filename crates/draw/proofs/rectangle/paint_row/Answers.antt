@@ -17,8 +17,8 @@ loop-i-preserved g c =
       λ w f.
           row_goes_on a.plan.now a.slots.now a.c w.opened (g.S.Bitmap.picture a.screen.now) (g.T.Bitmap.picture a.store.now) a.blit a.y a.sy
           (g.S.Bitmap.picture l.screen) (g.T.Bitmap.picture l.store) (g.S.Bitmap.picture c.touch.new.screen) (g.T.Bitmap.picture c.touch.new.store)
-          l.i c.turn-k.result c.saturating-add-from.result c.saturating-add-x.result c.sample-s.result f w c.loop-i-test.true c.turn-k.ensures
-          c.saturating-add-from.ensures c.saturating-add-x.ensures (l.invariant.0 w f) c.sample-s.ensures c.touch.ensures.drawn,
+          l.i c.turn-k.result c.saturating_add-from.result c.saturating_add-x.result c.sample-s.result f w c.loop-i-test.true c.turn-k.ensures
+          c.saturating_add-from.ensures c.saturating_add-x.ensures (l.invariant.0 w f) c.sample-s.ensures c.touch.ensures.drawn,
       g.met.S.Bitmap.joins a.screen.now l.screen c.touch.new.screen l.invariant.1 c.touch.ensures.screen,
       g.met.T.Bitmap.joins a.store.now l.store c.touch.new.store l.invariant.2 c.touch.ensures.store,
     )

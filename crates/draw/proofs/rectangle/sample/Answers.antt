@@ -11,5 +11,5 @@ returns-in-Itself g c =
     let screen = g.S.Bitmap.picture a.screen.now in
     let store = g.T.Bitmap.picture a.store.now in
     λ f o.
-    c.read-pixel.ensures f o ∙ sym (layer_at screen store a.plan.now a.slots.now a.c a.x a.y o)
+    c.read_pixel.ensures f o ∙ sym (layer_at screen store a.plan.now a.slots.now a.c a.x a.y o)
     ∙ ap (λ (k : Ink). inked k (layer_held screen store a.plan.now a.slots.now a.c) a.x a.y) (sym c.in-Itself.is)

@@ -19,11 +19,11 @@ loop-j-preserved g c =
       λ t w f.
           rows_go_on a.plan.now a.slots.now a.c w.opened (g.S.Bitmap.picture a.screen.now) (g.T.Bitmap.picture a.store.now) a.rule.number
           (g.B.Bitmap.picture a.source.now) a.columns a.rows t a.rule
-          (g.S.Bitmap.picture l.screen) (g.T.Bitmap.picture l.store) (g.S.Bitmap.picture c.stamp-row.new.screen) (g.T.Bitmap.picture c.stamp-row.new.store)
-          l.j c.saturating-add-from.result c.saturating-add-y.result f (g.met.B.Bitmap.sound a.source.now) w c.loop-j-test.true
-          c.saturating-add-y.ensures c.saturating-add-from.ensures (l.invariant.0 t w f) c.stamp-row.ensures.drawn,
-      g.met.S.Bitmap.joins a.screen.now l.screen c.stamp-row.new.screen l.invariant.1 c.stamp-row.ensures.screen,
-      g.met.T.Bitmap.joins a.store.now l.store c.stamp-row.new.store l.invariant.2 c.stamp-row.ensures.store,
+          (g.S.Bitmap.picture l.screen) (g.T.Bitmap.picture l.store) (g.S.Bitmap.picture c.stamp_row.new.screen) (g.T.Bitmap.picture c.stamp_row.new.store)
+          l.j c.saturating_add-from.result c.saturating_add-y.result f (g.met.B.Bitmap.sound a.source.now) w c.loop-j-test.true
+          c.saturating_add-y.ensures c.saturating_add-from.ensures (l.invariant.0 t w f) c.stamp_row.ensures.drawn,
+      g.met.S.Bitmap.joins a.screen.now l.screen c.stamp_row.new.screen l.invariant.1 c.stamp_row.ensures.screen,
+      g.met.T.Bitmap.joins a.store.now l.store c.stamp_row.new.store l.invariant.2 c.stamp_row.ensures.store,
     )
 
 pub returns : goal.returns

@@ -8,9 +8,9 @@ returns g c =
     let store = g.T.Bitmap.picture a.store.now in
     record {
       drawn = λ o f.
-          touch_drawn screen store (g.S.Bitmap.picture c.put-pixel.new.screen) (g.T.Bitmap.picture c.put-pixel.new.store) a.plan.now a.slots.now a.c a.x a.y o
-          (g.met.S.Bitmap.sound a.screen.now) a.rule.number a.s c.read-pixel-d.result c.combine-value.result c.size.result c.size.ensures
-          (c.read-pixel-d.ensures f o) c.combine-value.ensures (λ small. c.put-pixel.ensures.put f o small);
-      screen = c.put-pixel.ensures.screen;
-      store = c.put-pixel.ensures.store;
+          touch_drawn screen store (g.S.Bitmap.picture c.put_pixel.new.screen) (g.T.Bitmap.picture c.put_pixel.new.store) a.plan.now a.slots.now a.c a.x a.y o
+          (g.met.S.Bitmap.sound a.screen.now) a.rule.number a.s c.read_pixel-d.result c.combine-value.result c.size.result c.size.ensures
+          (c.read_pixel-d.ensures f o) c.combine-value.ensures (λ small. c.put_pixel.ensures.put f o small);
+      screen = c.put_pixel.ensures.screen;
+      store = c.put_pixel.ensures.store;
     }

@@ -11,9 +11,9 @@ returns-in-Some-Screen g c =
     record {
       put = λ f o small.
           put_on_screen screen store a.plan.now a.slots.now f a.c a.u a.v a.value o small c.size.result.width (ap (λ (s : Size). s.width) (sym c.size.ensures))
-          c.in-Some-Screen.x c.in-Some-Screen.y (g.S.Bitmap.picture c.set-pixel.new.bitmap)
-          (let e = c.in-Some-Screen.ensures screen store f (ap (λ (s : Size). s.width) (sym c.size.ensures)) o in cc) c.set-pixel.ensures.after;
-      screen = c.set-pixel.ensures.rest;
+          c.in-Some-Screen.x c.in-Some-Screen.y (g.S.Bitmap.picture c.set_pixel.new.bitmap)
+          (let e = c.in-Some-Screen.ensures screen store f (ap (λ (s : Size). s.width) (sym c.size.ensures)) o in cc) c.set_pixel.ensures.after;
+      screen = c.set_pixel.ensures.rest;
       store = g.met.T.Bitmap.same a.store.now;
     }
 
@@ -25,8 +25,8 @@ returns-in-Some-Store g c =
     record {
       put = λ f o small.
           put_in_store screen store a.plan.now a.slots.now f a.c a.u a.v a.value o small c.size.result.width (ap (λ (s : Size). s.width) (sym c.size.ensures))
-          c.in-Some-Store.x c.in-Some-Store.y (g.T.Bitmap.picture c.set-pixel-in-Some-Store.new.bitmap)
-          (let e = c.in-Some-Store.ensures screen store f (ap (λ (s : Size). s.width) (sym c.size.ensures)) o in cc) c.set-pixel-in-Some-Store.ensures.after;
+          c.in-Some-Store.x c.in-Some-Store.y (g.T.Bitmap.picture c.set_pixel-in-Some-Store.new.bitmap)
+          (let e = c.in-Some-Store.ensures screen store f (ap (λ (s : Size). s.width) (sym c.size.ensures)) o in cc) c.set_pixel-in-Some-Store.ensures.after;
       screen = g.met.S.Bitmap.same a.screen.now;
-      store = c.set-pixel-in-Some-Store.ensures.rest;
+      store = c.set_pixel-in-Some-Store.ensures.rest;
     }

@@ -10,8 +10,8 @@ use Rattle.moving.proofs.backing.behind.Goals as goal
 narrow : (x : ℕ) → x < 32768 → to_z w16 x ≡ pos x
 narrow x h = omega (arith, ints)
 
-pub kept-pixel-requires : goal.kept-pixel-requires
-kept-pixel-requires c =
+pub kept_pixel-requires : goal.kept_pixel-requires
+kept_pixel-requires c =
     let a = c.args in
     let fx : SFits w16 c.frame-frame.result.x = search rules in
     let fy : SFits w16 c.frame-frame.result.y = search rules in

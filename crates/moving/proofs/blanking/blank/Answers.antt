@@ -3,14 +3,14 @@ use Rattle.std.proofs.lemmas.Bool.{ltb-true}
 use Rattle.raster.specs.Picture.{sizes}
 use Rattle.moving.proofs.Blanks.{Blanking, blank_none, blank_all, blank_turn, blank_past, slot_found}
 use Rattle.moving.proofs.blanking.blank.Goals as goal
-use Rattle.moving.proofs.blanking.blank.Goals.{in-Some, in-default}
+use Rattle.moving.proofs.blanking.blank.Goals.{in-Some, in_default}
 
 pub loop-i-init : goal.loop-i-init
 loop-i-init g c =
     let a = c.args in (g.met.T.Bitmap.same a.store.now, refl, λ h f. blank_none a.slots.now a.c (g.T.Bitmap.picture a.store.now))
 
-pub blank-slot-requires : goal.blank-slot-requires
-blank-slot-requires g c =
+pub blank_slot-requires : goal.blank_slot-requires
+blank_slot-requires g c =
     let t = c.args.slots.now in
     let q = slot_found t (300 * c.min.result + c.loop-i.i) c.in-Some.k c.in-Some.ensures in
     let e = q.0 in
@@ -25,20 +25,20 @@ loop-i-preserved g c =
     let n : ℕ = 300 * c.min.result + l.i in
     elim c.match-slot.branch [
       | in-Some w ↦ (
-        subst (g.T.Bitmap.keeps a.store.now) (sym w.store-is) (g.met.T.Bitmap.joins a.store.now l.store w.blank-slot.new.store l.invariant.0 w.blank-slot.ensures.keeps),
-        ap (λ z. sizes (g.T.Bitmap.picture z)) w.store-is ∙ w.blank-slot.ensures.size ∙ l.invariant.1,
+        subst (g.T.Bitmap.keeps a.store.now) (sym w.store-is) (g.met.T.Bitmap.joins a.store.now l.store w.blank_slot.new.store l.invariant.0 w.blank_slot.ensures.keeps),
+        ap (λ z. sizes (g.T.Bitmap.picture z)) w.store-is ∙ w.blank_slot.ensures.size ∙ l.invariant.1,
         λ h f.
             let en : n ≡ 300 * a.c + l.i = omega (arith, c.min.ensures) in
             blank_turn a.slots.now a.c l.i n m m' f h c.loop-i-test.true en l.invariant.1 (l.invariant.2 h f) w.in-Some.k (g.T.Bitmap.picture c.match-slot.store) w.in-Some.ensures
-            (λ k. ap g.T.Bitmap.picture w.store-is ∙ w.blank-slot.ensures.blanks k),
+            (λ k. ap g.T.Bitmap.picture w.store-is ∙ w.blank_slot.ensures.blanks k),
       )
-      | in-default w ↦ (
+      | in_default w ↦ (
         subst (g.T.Bitmap.keeps a.store.now) (sym w.store-is) l.invariant.0,
         ap (λ z. sizes (g.T.Bitmap.picture z)) w.store-is ∙ l.invariant.1,
         λ h f.
             let en : n ≡ 300 * a.c + l.i = omega (arith, c.min.ensures) in
             subst (λ z. Blanking a.slots.now a.c (l.i + 1) m (g.T.Bitmap.picture z)) (sym w.store-is)
-            (blank_past a.slots.now a.c l.i n m m' f h c.loop-i-test.true en l.invariant.1 (l.invariant.2 h f) c.slot.result c.slot.ensures w.in-default.not-Some),
+            (blank_past a.slots.now a.c l.i n m m' f h c.loop-i-test.true en l.invariant.1 (l.invariant.2 h f) c.slot.result c.slot.ensures w.in_default.not-Some),
       )
     ]
 

@@ -14,8 +14,8 @@ loop-j-init g c =
       λ f. sym (repainted_none (g.T.Bitmap.picture a.store.now) a.plan.now a.slots.now (rows_so_far c.clip-columns.result c.clip-rows.result 0) _ (rows_none c.clip-columns.result c.clip-rows.result)),
     )
 
-pub repaint-row-requires : goal.repaint-row-requires
-repaint-row-requires g c =
+pub repaint_row-requires : goal.repaint_row-requires
+repaint_row-requires g c =
     let e = c.loop-j.invariant.1 ∙ sym c.size-size.ensures in
     let s = g.S.Bitmap.picture c.loop-j.screen in
     let w : s.width ≡ c.size-size.result.width = ap (λ (z : Size). z.width) e in
@@ -31,11 +31,11 @@ loop-j-preserved g c =
     let m = g.T.Bitmap.picture a.store.now in
     let s = g.S.Bitmap.picture a.screen.now in
     let s' = g.S.Bitmap.picture l.screen in
-    let s'' = g.S.Bitmap.picture c.repaint-row.new.screen in (
-      g.met.S.Bitmap.joins a.screen.now l.screen c.repaint-row.new.screen l.invariant.0 c.repaint-row.ensures.keeps,
-      c.repaint-row.ensures.size ∙ l.invariant.1,
+    let s'' = g.S.Bitmap.picture c.repaint_row.new.screen in (
+      g.met.S.Bitmap.joins a.screen.now l.screen c.repaint_row.new.screen l.invariant.0 c.repaint_row.ensures.keeps,
+      c.repaint_row.ensures.size ∙ l.invariant.1,
       repaint_more s s' s'' m a.plan.now a.slots.now (rows_so_far columns rows l.j) (in_row columns (rows.first + l.j)) (rows_so_far columns rows (l.j + 1)) l.invariant.1
-          (rows_more columns rows l.j) l.invariant.2 c.repaint-row.ensures.paints,
+          (rows_more columns rows l.j) l.invariant.2 c.repaint_row.ensures.paints,
     )
 
 pub returns : goal.returns

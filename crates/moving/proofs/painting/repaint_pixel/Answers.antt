@@ -9,14 +9,14 @@ returns-in-Some g c =
     let s = g.S.Bitmap.picture a.screen.now in
     let m = g.T.Bitmap.picture a.store.now in
     record {
-      keeps = c.set-pixel.ensures.rest;
-      size = c.set-pixel.ensures.size;
+      keeps = c.set_pixel.ensures.rest;
+      size = c.set_pixel.ensures.size;
       paints = λ f. paint_some s m a.plan.now a.slots.now a.x a.y _ _ f (ap (λ (z : Size). z.width) c.size.ensures) (ap (λ (z : Size). z.depth) c.size-depth.ensures) c.behind-backing.result c.behind-backing.ensures c.found.result c.found.ensures
-          c.in-Some.v _ c.in-Some.is c.requires.across c.requires.down c.set-pixel.ensures.after;
+          c.in-Some.v _ c.in-Some.is c.requires.across c.requires.down c.set_pixel.ensures.after;
     }
 
-pub returns-in-default : goal.returns-in-default
-returns-in-default g c =
+pub returns-in_default : goal.returns-in_default
+returns-in_default g c =
     let a = c.args in
     let s = g.S.Bitmap.picture a.screen.now in
     let m = g.T.Bitmap.picture a.store.now in
@@ -24,5 +24,5 @@ returns-in-default g c =
       keeps = g.met.S.Bitmap.same a.screen.now;
       size = refl;
       paints = λ f. paint_none s m a.plan.now a.slots.now a.x a.y _ _ f (ap (λ (z : Size). z.width) c.size.ensures) (ap (λ (z : Size). z.depth) c.size-depth.ensures) c.behind-backing.result c.behind-backing.ensures c.found.result c.found.ensures
-          (none_is _ c.in-default.not-Some);
+          (none_is _ c.in_default.not-Some);
     }

@@ -19,11 +19,11 @@ loop-i-preserved g c =
     let m = g.T.Bitmap.picture a.store.now in
     let s = g.S.Bitmap.picture a.screen.now in
     let s' = g.S.Bitmap.picture l.screen in
-    let s'' = g.S.Bitmap.picture c.repaint-pixel.new.screen in (
-      g.met.S.Bitmap.joins a.screen.now l.screen c.repaint-pixel.new.screen l.invariant.0 c.repaint-pixel.ensures.keeps,
-      c.repaint-pixel.ensures.size ∙ l.invariant.1,
+    let s'' = g.S.Bitmap.picture c.repaint_pixel.new.screen in (
+      g.met.S.Bitmap.joins a.screen.now l.screen c.repaint_pixel.new.screen l.invariant.0 c.repaint_pixel.ensures.keeps,
+      c.repaint_pixel.ensures.size ∙ l.invariant.1,
       repaint_more s s' s'' m a.plan.now a.slots.now (row_so_far a.columns a.y l.i) (just (a.columns.first + l.i) a.y) (row_so_far a.columns a.y (l.i + 1)) l.invariant.1
-          (row_more a.columns a.y l.i) l.invariant.2 c.repaint-pixel.ensures.paints,
+          (row_more a.columns a.y l.i) l.invariant.2 c.repaint_pixel.ensures.paints,
     )
 
 pub returns : goal.returns

@@ -14,8 +14,8 @@ loop-j-init g c =
       λ f. stowed_none _ a.plan.now a.slots.now (rows_so_far c.clip-columns.result c.clip-rows.result 0) _ (rows_none c.clip-columns.result c.clip-rows.result),
     )
 
-pub stow-row-requires : goal.stow-row-requires
-stow-row-requires g c =
+pub stow_row-requires : goal.stow_row-requires
+stow_row-requires g c =
     let e = c.size-size.ensures in
     let s = g.S.Bitmap.picture c.args.screen.now in
     let w : c.size-size.result.width ≡ s.width = ap (λ (z : Size). z.width) e in
@@ -31,11 +31,11 @@ loop-j-preserved g c =
     let s = g.S.Bitmap.picture a.screen.now in
     let m = g.T.Bitmap.picture a.store.now in
     let m' = g.T.Bitmap.picture l.store in
-    let m'' = g.T.Bitmap.picture c.stow-row.new.store in (
-      g.met.T.Bitmap.joins a.store.now l.store c.stow-row.new.store l.invariant.0 c.stow-row.ensures.keeps,
-      c.stow-row.ensures.size ∙ l.invariant.1,
+    let m'' = g.T.Bitmap.picture c.stow_row.new.store in (
+      g.met.T.Bitmap.joins a.store.now l.store c.stow_row.new.store l.invariant.0 c.stow_row.ensures.keeps,
+      c.stow_row.ensures.size ∙ l.invariant.1,
       stow_more s m m' m'' a.plan.now a.slots.now (rows_so_far columns rows l.j) (in_row columns (rows.first + l.j)) (rows_so_far columns rows (l.j + 1)) l.invariant.1
-          (rows_more columns rows l.j) l.invariant.2 c.stow-row.ensures.stows,
+          (rows_more columns rows l.j) l.invariant.2 c.stow_row.ensures.stows,
     )
 
 pub returns : goal.returns

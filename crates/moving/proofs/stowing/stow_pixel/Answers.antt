@@ -9,19 +9,19 @@ returns-in-Kept g c =
     let s = g.S.Bitmap.picture a.screen.now in
     let m = g.T.Bitmap.picture a.store.now in
     record {
-      keeps = c.set-pixel.ensures.rest;
-      size = c.set-pixel.ensures.size;
+      keeps = c.set_pixel.ensures.rest;
+      size = c.set_pixel.ensures.size;
       stows = λ f. stow_kept s m a.plan.now a.slots.now a.x a.y _ f (ap (λ (z : Size). z.width) c.size-width.ensures) _ c.behind.ensures
-          c.in-Kept.a c.in-Kept.b c.pixel.result _ c.in-Kept.is (g.met.S.Bitmap.sound a.screen.now).values c.pixel.ensures c.set-pixel.ensures.after;
+          c.in-Kept.a c.in-Kept.b c.pixel.result _ c.in-Kept.is (g.met.S.Bitmap.sound a.screen.now).values c.pixel.ensures c.set_pixel.ensures.after;
     }
 
-pub returns-in-default : goal.returns-in-default
-returns-in-default g c =
+pub returns-in_default : goal.returns-in_default
+returns-in_default g c =
     let a = c.args in
     let s = g.S.Bitmap.picture a.screen.now in
     let m = g.T.Bitmap.picture a.store.now in
     record {
       keeps = g.met.T.Bitmap.same a.store.now;
       size = refl;
-      stows = λ f. stow_rest s m a.plan.now a.slots.now a.x a.y _ f (ap (λ (z : Size). z.width) c.size-width.ensures) _ c.behind.ensures c.in-default.not-Kept;
+      stows = λ f. stow_rest s m a.plan.now a.slots.now a.x a.y _ f (ap (λ (z : Size). z.width) c.size-width.ensures) _ c.behind.ensures c.in_default.not-Kept;
     }

@@ -19,11 +19,11 @@ loop-i-preserved g c =
     let s = g.S.Bitmap.picture a.screen.now in
     let m = g.T.Bitmap.picture a.store.now in
     let m' = g.T.Bitmap.picture l.store in
-    let m'' = g.T.Bitmap.picture c.stow-pixel.new.store in (
-      g.met.T.Bitmap.joins a.store.now l.store c.stow-pixel.new.store l.invariant.0 c.stow-pixel.ensures.keeps,
-      c.stow-pixel.ensures.size ∙ l.invariant.1,
+    let m'' = g.T.Bitmap.picture c.stow_pixel.new.store in (
+      g.met.T.Bitmap.joins a.store.now l.store c.stow_pixel.new.store l.invariant.0 c.stow_pixel.ensures.keeps,
+      c.stow_pixel.ensures.size ∙ l.invariant.1,
       stow_more s m m' m'' a.plan.now a.slots.now (row_so_far a.columns a.y l.i) (just (a.columns.first + l.i) a.y) (row_so_far a.columns a.y (l.i + 1)) l.invariant.1
-          (row_more a.columns a.y l.i) l.invariant.2 c.stow-pixel.ensures.stows,
+          (row_more a.columns a.y l.i) l.invariant.2 c.stow_pixel.ensures.stows,
     )
 
 pub returns : goal.returns
