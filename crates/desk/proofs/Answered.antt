@@ -1,20 +1,19 @@
 -- What a call to an open layer answers, from what its checks found.
-use Rattle.std.proofs.Common.{◌≡◌, ℕ, ◌<◌, Bool, true, false, ◌&&◌, ltb, List, [], ◌∷◌, ℤ, nat_abs, Some, None, Ok, Err, Option, Result, sym, refl, ap, ◌∙◌, subst, arith}
+use Rattle.std.proofs.Common.{◌≡◌, ℕ, ◌<◌, true, List, [], ◌∷◌, ℤ, nat_abs, Some, None, Ok, Err, Option, Result, sym, ap, ◌∙◌, subst}
 use Rattle.std.proofs.lemmas.Bool.{cond-true, and_from, lt-ltb}
 use Rattle.raster.specs.Picture.{Picture, sizes}
-use Rattle.raster.specs.Calls.{BitmapCall, read_at, unless, first_fault, bitmap_fault, bitmap_value}
+use Rattle.raster.specs.Calls.{BitmapCall, read_at, unless, first_fault, bitmap_fault}
 use Rattle.raster.specs.declared.fault.Fault.{Fault}
 use Rattle.raster.proofs.Accepts.{unless_ok, unless_err}
 use Rattle.raster.proofs.Called.{read_found}
 use Rattle.paper.specs.declared.DeskFault.{DeskFault}
 use Rattle.paper.specs.Layers.{is_open, pane}
-use Rattle.paper.specs.Desk.{Call, read_layer, no_client, not_open, own_bitmap, carried, fault_of, Answer, answer}
-use Rattle.paper.proofs.View.{answer_refused, answer_accepted}
+use Rattle.paper.specs.Desk.{read_layer, no_client, not_open, own_bitmap, carried, Answer, answer}
+use Rattle.paper.proofs.View.{answer_accepted}
 use Rattle.hold.specs.Held.{Fitting, OwnPixel, held}
 use Rattle.plan.specs.Plans.{frame_in}
 use Rattle.desk.specs.declared.book.Book.{Book}
-use Rattle.desk.specs.Carried.{carry}
-use Rattle.desk.specs.Desks.{made_for, on_pictures}
+use Rattle.desk.specs.Desks.{on_pictures}
 use Rattle.desk.proofs.Checks.{first_refuse, first_pass, one_check, passed_open}
 use Rattle.desk.proofs.Fits.{fitting, open_listed, open_pane}
 

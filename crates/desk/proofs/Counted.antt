@@ -11,7 +11,7 @@ use Rattle.plan.specs.Plans.{has_slot, hidden_patch}
 use Rattle.plan.specs.Allots.{passing}
 use Rattle.plan.proofs.Regroup.{tally_alike, counted_tally}
 use Rattle.plan.proofs.Lawful.{hidden_counted}
-use Rattle.hold.specs.Held.{Fitting, held, paper_of}
+use Rattle.hold.specs.Held.{Fitting, paper_of}
 use Rattle.hold.proofs.Asks.{paper_hidden}
 use Rattle.desk.specs.declared.book.Book.{Book}
 use Rattle.desk.specs.Desks.{made_for, on_pictures, used_by}

@@ -1,5 +1,5 @@
 -- Drawing on a layer: from the pictures of screen and store to the desk on paper.
-use Rattle.std.proofs.Common.{◌≡◌, ℕ, ◌*◌, Bool, true, false, ◌&&◌, eqb, ltb, List, [], ◌∷◌, Some, None, Ok, Err, Option, Result, sym, refl, ap, ◌∙◌, subst}
+use Rattle.std.proofs.Common.{◌≡◌, ℕ, ◌*◌, true, ◌&&◌, eqb, [], ◌∷◌, Some, None, Ok, Err, Result, sym, refl, ap, ◌∙◌, subst}
 use Rattle.raster.specs.Picture.{Picture, sizes}
 use Rattle.raster.specs.Calls.{BitmapCall, unless, first_fault, bitmap_fault, bitmap_value, bitmap_change}
 use Rattle.raster.specs.Blits.{Below, performed, Performs}
@@ -10,17 +10,16 @@ use Rattle.paper.specs.declared.DeskFault.{DeskFault}
 use Rattle.paper.specs.Layers as paper
 use Rattle.paper.specs.Layers.{is_open, pane, screen_after}
 use Rattle.paper.specs.Slots.{slots_of}
-use Rattle.paper.specs.Desk.{Call, no_client, not_open, carried, own_bitmap, repaint, change, accepted_value, fault_of, after, answer}
-use Rattle.paper.specs.Run.{State, Becomes, Does}
+use Rattle.paper.specs.Desk.{Call, no_client, not_open, carried, own_bitmap, repaint, change, accepted_value, fault_of}
+use Rattle.paper.specs.Run.{Becomes, Does}
 use Rattle.paper.proofs.Draws.{SameDrawing, fills, scrolls}
 use Rattle.paper.proofs.View.{answer_accepted, after_accepted}
-use Rattle.plan.specs.Plans.{frame_in}
-use Rattle.hold.specs.Held.{Fitting, Drawn, layer_held, paper_of}
+use Rattle.hold.specs.Held.{Drawn, layer_held, paper_of}
 use Rattle.draw.specs.Areas.{BlitWithin}
 use Rattle.desk.specs.declared.book.Book.{Book}
 use Rattle.desk.specs.Carried.{carry}
-use Rattle.desk.specs.Desks.{same_size, made_for, on_pictures, used_by, state_on}
-use Rattle.desk.proofs.Fits.{fitting, paper_fits, open_listed, open_pane}
+use Rattle.desk.specs.Desks.{same_size, made_for, on_pictures, state_on}
+use Rattle.desk.proofs.Fits.{paper_fits, open_listed, open_pane}
 use Rattle.desk.proofs.Counted.{used_is}
 use Rattle.desk.proofs.Idle.{refused_does}
 use Rattle.desk.proofs.Answered.{check_refused, check_open, own_check}

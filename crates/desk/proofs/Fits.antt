@@ -1,5 +1,5 @@
 -- A desk whose book was made for its bitmaps, and one whose book was not.
-use Rattle.std.proofs.Common.{◌≡◌, ℕ, Bool, true, false, cond, not, eqb, ◌⊎◌, ℤ, is_err, None, Ok, Err, Option, sym, refl, ap, ◌∙◌, ⊎_elim}
+use Rattle.std.proofs.Common.{◌≡◌, ℕ, Bool, true, false, cond, not, eqb, ℤ, is_err, None, Ok, Err, Option, sym, refl, ap, ◌∙◌, ⊎_elim}
 use Rattle.std.proofs.lemmas.Bool.{and_parts, eqb-true, cond-true, cond-false, cases_Bool, both_ways}
 use Rattle.raster.specs.Picture.{Picture, sizes}
 use Rattle.raster.specs.declared.size.Size.{Size}

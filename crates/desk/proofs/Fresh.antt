@@ -1,21 +1,19 @@
 -- New desks, and books without layers.
-use Rattle.std.proofs.Common.{◌≡◌, ℕ, ◌*◌, ◌/◌, ◌<◌, ◌≤◌, min, Bool, true, false, cond, ◌&&◌, eqb, ltb, ◌⊎◌, List, [], ℤ, pos, sym, refl, ap, ◌∙◌, ap₂, inl, inr, ⊎_elim, arith}
+use Rattle.std.proofs.Common.{◌≡◌, ℕ, ◌*◌, ◌/◌, ◌<◌, ◌≤◌, min, Bool, true, false, cond, ltb, ◌⊎◌, List, pos, sym, refl, ap, ◌∙◌, inl, inr, ⊎_elim, arith}
 use Rattle.std.proofs.lemmas.Nat.{mul-le}
 use Rattle.std.proofs.lemmas.Int.{ints}
-use Rattle.std.proofs.lemmas.Bool.{and_from, and_right, eq-eqb, lt-ltb, cond-true, cond-false, cases_Bool, cases_lt}
+use Rattle.std.proofs.lemmas.Bool.{and_from, eq-eqb, cond-true, cond-false, cases_lt}
 use Rattle.std.proofs.lemmas.Bool.Decides.{nat_tests}
 use Rattle.raster.specs.Picture.{Picture, sizes, painted, Sound}
 use Rattle.raster.specs.Calls.{fill_with, bitmap_after}
 use Rattle.raster.specs.declared.size.Size.{Size}
 use Rattle.raster.proofs.Paints.{same_picture}
-use Rattle.paper.specs.Layers as paper
-use Rattle.paper.specs.Layers.{Layer, new_desk, blank}
+use Rattle.paper.specs.Layers.{new_desk, blank}
 use Rattle.paper.specs.Slots.{slots_of, hidden_count}
 use Rattle.paper.specs.Desk.{slots_answer}
-use Rattle.paper.specs.Run.{State, new_state}
-use Rattle.plan.specs.Plans.{listed, has_slot}
+use Rattle.paper.specs.Run.{new_state}
+use Rattle.plan.specs.Plans.{has_slot}
 use Rattle.plan.specs.Allots.{passing}
-use Rattle.plan.specs.declared.frame.Frame.{Frame}
 use Rattle.hold.specs.Held.{held, layers_with, paper_of}
 use Rattle.moving.specs.Phases.{on_screen}
 use Rattle.moving.proofs.Blanks.{filled_zero}

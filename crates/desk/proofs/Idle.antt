@@ -1,23 +1,20 @@
 -- What stands is what the book says, and a refused call leaves it.
-use Rattle.std.proofs.Common.{◌≡◌, ℕ, Bool, true, false, cond, ◌&&◌, ◌||◌, eqb, ◌⊎◌, List, [], ◌∷◌, pos, Some, None, Ok, Err, sym, refl, ap, ◌∙◌, subst, ⊎_elim}
-use Rattle.std.proofs.lemmas.Bool.{cases_Bool, cond-true, cond-false, and_parts, and_right}
+use Rattle.std.proofs.Common.{◌≡◌, ℕ, Bool, true, false, cond, ◌||◌, pos, Some, Err, sym, refl, ap, ◌∙◌, subst, ⊎_elim}
+use Rattle.std.proofs.lemmas.Bool.{cases_Bool, and_parts, and_right}
 use Rattle.raster.specs.Picture.{Picture, sizes, painted}
 use Rattle.raster.specs.Blt.{inside}
-use Rattle.raster.specs.declared.size.Size.{Size}
 use Rattle.raster.proofs.Paints.{same_picture, painted_none}
 use Rattle.paper.specs.declared.DeskFault.{DeskFault}
 use Rattle.paper.specs.Layers as paper
 use Rattle.paper.specs.Layers.{covered, shown, screen_after}
-use Rattle.paper.specs.Slots.{slots_of, hidden_count}
-use Rattle.paper.specs.Desk.{Call, fault_of, after}
-use Rattle.paper.specs.Run.{State, Becomes, Does}
+use Rattle.paper.specs.Desk.{Call, fault_of}
+use Rattle.paper.specs.Run.{Becomes, Does}
 use Rattle.paper.proofs.View.{answer_refused, after_refused}
-use Rattle.plan.specs.Plans.{layers_in}
-use Rattle.hold.specs.Held.{Fitting, paper_of}
+use Rattle.hold.specs.Held.{paper_of}
 use Rattle.hold.proofs.Papers.{paper_covered}
 use Rattle.hold.proofs.Shows.{paper_shows}
 use Rattle.desk.specs.declared.book.Book.{Book}
-use Rattle.desk.specs.Desks.{same_size, made_for, on_pictures, used_by, state_on}
+use Rattle.desk.specs.Desks.{made_for, on_pictures, state_on}
 use Rattle.desk.proofs.Fits.{fitting, paper_fits, paper_other}
 use Rattle.desk.proofs.Counted.{used_is}
 

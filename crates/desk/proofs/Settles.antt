@@ -16,7 +16,7 @@ use Rattle.plan.specs.declared.slots.Slots.{Slots}
 use Rattle.plan.specs.Plans.{listed, needs}
 use Rattle.plan.specs.Allots.{passing}
 use Rattle.plan.specs.Laws.{desk_in}
-use Rattle.hold.specs.Held.{Fitting, Pixels, paper_of}
+use Rattle.hold.specs.Held.{Pixels, paper_of}
 use Rattle.hold.proofs.Asks.{outlines_with, needed_same, paper_outlines}
 use Rattle.moving.specs.Phases as phases
 use Rattle.moving.specs.Moves.{desk_with, Slotted}

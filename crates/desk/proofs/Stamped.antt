@@ -1,5 +1,5 @@
 -- Stamping on a layer: from the pictures of screen and store to the desk on paper.
-use Rattle.std.proofs.Common.{◌≡◌, ℕ, ◌≤◌, Bool, true, false, ltb, List, [], ◌∷◌, Some, None, Ok, Err, Option, Result, sym, refl, ap, ◌∙◌, subst}
+use Rattle.std.proofs.Common.{◌≡◌, ℕ, true, false, ltb, List, [], ◌∷◌, Some, None, Ok, Option, Result, sym, refl, ap, ◌∙◌, subst}
 use Rattle.raster.specs.Picture.{Picture, sizes}
 use Rattle.raster.specs.Blt.{Transfer, from_picture, count, blt}
 use Rattle.raster.specs.Calls.{unless, first_fault, refuse_if}
@@ -14,8 +14,7 @@ use Rattle.paper.specs.Layers as paper
 use Rattle.paper.specs.Layers.{is_open, pane}
 use Rattle.paper.specs.Desk.{because, no_client, not_open, no_rule, stamp_layer}
 use Rattle.paper.specs.Run.{Does}
-use Rattle.hold.specs.Held.{Fitting, Drawn, layer_held, paper_of}
-use Rattle.plan.specs.Plans.{frame_in}
+use Rattle.hold.specs.Held.{Drawn, layer_held}
 use Rattle.draw.specs.Stamps.{Stamps}
 use Rattle.desk.specs.declared.book.Book.{Book}
 use Rattle.desk.specs.Carried.{stamp_checks}
@@ -23,7 +22,7 @@ use Rattle.desk.specs.Desks.{made_for, on_pictures, state_on}
 use Rattle.desk.proofs.Answered.{check_rest}
 use Rattle.desk.proofs.Checks.{one_check, passed_open}
 use Rattle.desk.proofs.Drawn.{drawn_does}
-use Rattle.desk.proofs.Fits.{fitting, paper_fits, paper_size, open_listed, open_pane}
+use Rattle.desk.proofs.Fits.{paper_fits, paper_size, open_listed, open_pane}
 
 first_two : {F : Type 0} (a b : Option F) (rest : List (Option F)) → first_fault (a ∷ b ∷ rest) ≡ None → first_fault (a ∷ b ∷ []) ≡ None
 first_two (Some x) b rest e = absurd (some_none e)

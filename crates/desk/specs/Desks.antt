@@ -1,5 +1,5 @@
 -- The desk on paper that a desk stands for, and what of it no call changes.
-use Rattle.std.specs.Prelude.{ℕ, Bool, cond, ◌&&◌, List, [], ◌==◌}
+use Rattle.std.specs.Prelude.{ℕ, Bool, cond, ◌&&◌, ◌==◌}
 use Rattle.raster.specs.Picture.{Picture, sizes}
 use Rattle.raster.specs.declared.bitmap.Bitmap.{Ghosts}
 use Rattle.raster.specs.declared.size.Size.{Size}

@@ -1,4 +1,4 @@
-use Rattle.std.proofs.Common.{◌≡◌, sym, refl, ap, ◌∙◌}
+use Rattle.std.proofs.Common.{refl, ap, ◌∙◌}
 use Rattle.raster.specs.Picture.{Picture}
 use Rattle.moving.specs.Phases.{on_screen, repainted}
 use Rattle.moving.proofs.Areas.{fitting_same}

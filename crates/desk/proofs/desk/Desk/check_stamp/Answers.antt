@@ -1,4 +1,4 @@
-use Rattle.std.proofs.Common.{◌≡◌, ltb, sym, refl, ap, ◌∙◌, arith}
+use Rattle.std.proofs.Common.{ap, ◌∙◌, arith}
 use Rattle.std.proofs.lemmas.Bool.{lt-ltb, le-ltb}
 use Rattle.raster.specs.Calls.{refuse_if}
 use Rattle.raster.specs.declared.refusal.Refusal.TheVariants.{ValueTooLarge}
@@ -17,7 +17,7 @@ returns-then-depth-size g c =
     let size = c.size.ensures in
     let taken = c.if-depth-size.true in
     rw c.because-then-depth-size.ensures
-    (stamp_last s t d.book a.c c.in-ok-check-open.ensures a.rule a.depth (le-ltb 15 a.rule (search arith))
+    (stamp_last s t d.book a.c c.in_ok-check_open.ensures a.rule a.depth (le-ltb 15 a.rule (search arith))
     ∙ ap (λ z. refuse_if z (because ValueTooLarge a.c)) (lt-ltb s.depth a.depth (search arith)))
 
 pub returns : goal.returns
@@ -30,7 +30,7 @@ returns g c =
     let number = c.in-Some.ensures in
     let size = c.size.ensures in
     let left = c.if-depth-size.false in (
-      stamp_last s t d.book a.c c.in-ok-check-open.ensures a.rule a.depth (le-ltb 15 a.rule (search arith))
+      stamp_last s t d.book a.c c.in_ok-check_open.ensures a.rule a.depth (le-ltb 15 a.rule (search arith))
           ∙ ap (λ z. refuse_if z (because ValueTooLarge a.c)) (le-ltb s.depth a.depth (search arith)),
       c.in-Some.ensures,
     )

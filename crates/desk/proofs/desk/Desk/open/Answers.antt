@@ -1,7 +1,7 @@
-use Rattle.std.proofs.Common.{◌≡◌, sym, refl, ap, ◌∙◌, subst, w16, to_z, of_z}
+use Rattle.std.proofs.Common.{◌≡◌, refl, ap, ◌∙◌, w16, to_z, of_z}
 use Rattle.std.proofs.lemmas.Result.{err_from_is_err_and}
 use Rattle.std.proofs.lemmas.Int.{to_z-of_z}
-use Rattle.raster.specs.Picture.{Picture, sizes}
+use Rattle.raster.specs.Picture.{sizes}
 use Rattle.raster.specs.Calls.{fill_with, bitmap_after}
 use Rattle.paper.specs.Desk.{Answer, open_layer}
 use Rattle.paper.specs.Run.{State, Does}
@@ -13,23 +13,23 @@ use Rattle.desk.proofs.Opens.{fill_sizes, open_shut, can, low, open_few, open_do
 use Rattle.desk.proofs.Settles.{sized}
 use Rattle.desk.proofs.desk.Desk.open.Goals as goal
 
-pub returns-in-err-check-new : goal.returns-in-err-check-new
-returns-in-err-check-new g c =
+pub returns-in_err-check_new : goal.returns-in_err-check_new
+returns-in_err-check_new g c =
     let a = c.args in
     let d = a.self.now in
     let s = g.S.Bitmap.picture d.screen in
     let t = g.T.Bitmap.picture d.store in
     let f : Frame = record { x = a.x; y = a.y; w = a.w; h = a.h } in
-    let err = err_from_is_err_and c.from-residual.result c.from-residual.ensures.1 in
+    let err = err_from_is_err_and c.from_residual.result c.from_residual.ensures.1 in
     rw (err.1, err.2)
     (record {
-      does = open_shut s t d.book a.c f _ c.in-err-check-new.ensures;
+      does = open_shut s t d.book a.c f _ c.in_err-check_new.ensures;
       rest = record { screen = g.met.S.Bitmap.same d.screen; store = g.met.T.Bitmap.same d.store };
       refused = refl;
     })
 
-pub returns-in-err-slots : goal.returns-in-err-slots
-returns-in-err-slots g c =
+pub returns-in_err-slots : goal.returns-in_err-slots
+returns-in_err-slots g c =
     let a = c.args in
     let d = a.self.now in
     let s = g.S.Bitmap.picture d.screen in
@@ -37,15 +37,15 @@ returns-in-err-slots g c =
     let f : Frame = record { x = to_z w16 (of_z w16 a.x); y = to_z w16 (of_z w16 a.y); w = a.w; h = a.h } in
     let at = λ (r : Answer) (e : State). at_corner_passed (λ x y. Does (state_on s t d.book) (open_layer a.c x y a.w a.h) r e) (to_z-of_z w16 a.x c.ranges.x) (to_z-of_z w16 a.y c.ranges.y) in
     let b = c.current-book.result in
-    let ok = c.in-ok-check-new.ensures in
+    let ok = c.in_ok-check_new.ensures in
     let fits = c.current-book.ensures.fits in
     let same = c.current-book.ensures.same in
     let is = can s t d.book a.c f b fits same ok in
-    let err = err_from_is_err_and c.from-residual-in-err-slots.result c.from-residual-in-err-slots.ensures.1 in
+    let err = err_from_is_err_and c.from_residual-in_err-slots.result c.from_residual-in_err-slots.ensures.1 in
     rw (err.1, err.2)
     (record {
       does = at _ _ (open_few s t d.book a.c f b fits same ok c.opened-after.result (c.opened-after.ensures.arranged is) c.opened-after.ensures.frames
-          _ c.in-err-slots.ensures.0 c.in-err-slots.ensures.1);
+          _ c.in_err-slots.ensures.0 c.in_err-slots.ensures.1);
       rest = record { screen = g.met.S.Bitmap.same d.screen; store = g.met.T.Bitmap.same d.store };
       refused = refl;
     })
@@ -59,12 +59,12 @@ returns g c =
     let f : Frame = record { x = to_z w16 (of_z w16 a.x); y = to_z w16 (of_z w16 a.y); w = a.w; h = a.h } in
     let at = λ (r : Answer) (e : State). at_corner_passed (λ x y. Does (state_on s t d.book) (open_layer a.c x y a.w a.h) r e) (to_z-of_z w16 a.x c.ranges.x) (to_z-of_z w16 a.y c.ranges.y) in
     let b = c.current-book.result in
-    let ok = c.in-ok-check-new.ensures in
+    let ok = c.in_ok-check_new.ensures in
     let fits = c.current-book.ensures.fits in
     let same = c.current-book.ensures.same in
     let is = can s t d.book a.c f b fits same ok in
-    let slots = c.in-ok-slots.slots in
-    let way = c.in-ok-slots.ensures in
+    let slots = c.in_ok-slots.slots in
+    let way = c.in_ok-slots.ensures in
     let t₁ = g.T.Bitmap.picture c.stow.new.store in
     let fit = sized s t b fits slots way.1.places in
     let zeros : g.S.Bitmap.picture c.fill.new.self ≡ bitmap_after s (fill_with 3 0 f.x f.y f.w f.h) = c.fill.ensures.after in

@@ -1,6 +1,5 @@
-use Rattle.std.proofs.Common.{◌≡◌, Ok, Err, Result, sym, refl, ap, ◌∙◌, subst}
+use Rattle.std.proofs.Common.{Result, refl, subst}
 use Rattle.std.proofs.lemmas.Result.{err_from_is_err_and}
-use Rattle.paper.specs.declared.DeskFault.{DeskFault}
 use Rattle.raster.specs.Picture.{sizes}
 use Rattle.raster.specs.Blits.{Prepares, Performs}
 use Rattle.raster.specs.declared.blit.Blit.{Blit}
@@ -11,16 +10,16 @@ use Rattle.desk.proofs.Drawn.{drawing_shut, drawing_refused, blit_within, drawin
 use Rattle.desk.proofs.Fits.{fitting}
 use Rattle.desk.proofs.desk.Desk.perform.Goals as goal
 
-pub returns-in-err-check-open : goal.returns-in-err-check-open
-returns-in-err-check-open g c =
+pub returns-in_err-check_open : goal.returns-in_err-check_open
+returns-in_err-check_open g c =
     let a = c.args in
     let d = a.self.now in
     let s = g.S.Bitmap.picture d.screen in
     let t = g.T.Bitmap.picture d.store in
-    let p = err_from_is_err_and c.from-residual.result c.from-residual.ensures.1 in
+    let p = err_from_is_err_and c.from_residual.result c.from_residual.ensures.1 in
     rw (p.1, p.2)
     (record {
-      does = λ k b same pre. drawing_shut s t d.book a.c k b same _ c.in-err-check-open.ensures;
+      does = λ k b same pre. drawing_shut s t d.book a.c k b same _ c.in_err-check_open.ensures;
       rest = record { screen = g.met.S.Bitmap.same d.screen; store = g.met.T.Bitmap.same d.store };
       refused = refl;
     })
@@ -34,7 +33,7 @@ returns-in-Err g c =
     record {
       does = λ k b same pre.
           rw c.carried.ensures
-          (drawing_refused s t d.book a.c c.in-ok-check-open.ensures k b same c.in-Err.f
+          (drawing_refused s t d.book a.c c.in_ok-check_open.ensures k b same c.in-Err.f
           (subst (λ (r : Result Blit Fault). Prepares (sizes (pane a.c (on_pictures s t d.book))) b r) c.in-Err.is pre));
       rest = record { screen = g.met.S.Bitmap.same d.screen; store = g.met.T.Bitmap.same d.store };
       refused = refl;
@@ -47,7 +46,7 @@ returns-in-Ok g c =
     let d = a.self.now in
     let s = g.S.Bitmap.picture d.screen in
     let t = g.T.Bitmap.picture d.store in
-    let ok = c.in-ok-check-open.ensures in
+    let ok = c.in_ok-check_open.ensures in
     let blit = c.in-Ok.blit in
     record {
       does = λ k b same pre.

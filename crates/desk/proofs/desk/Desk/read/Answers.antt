@@ -1,4 +1,4 @@
-use Rattle.std.proofs.Common.{◌≡◌, [], ◌∷◌, nat_abs, Ok, Err, sym, ap, ◌∙◌, subst}
+use Rattle.std.proofs.Common.{[], ◌∷◌, nat_abs, Err, sym, ap, ◌∙◌}
 use Rattle.std.proofs.lemmas.Result.{err_from_is_err_and}
 use Rattle.std.proofs.lemmas.Int.{to_z-of_z}
 use Rattle.raster.specs.Calls.{read_at, unless, bitmap_fault}
@@ -11,14 +11,14 @@ use Rattle.desk.specs.Desks.{on_pictures}
 use Rattle.desk.proofs.Answered.{check_refused, own_check, own_pixel}
 use Rattle.desk.proofs.desk.Desk.read.Goals as goal
 
-pub returns-in-err-check-open : goal.returns-in-err-check-open
-returns-in-err-check-open g c =
+pub returns-in_err-check_open : goal.returns-in_err-check_open
+returns-in_err-check_open g c =
     let a = c.args in
     let d = a.self.now in
     let s = g.S.Bitmap.picture d.screen in
     let t = g.T.Bitmap.picture d.store in
-    let p = err_from_is_err_and c.from-residual.result c.from-residual.ensures.1 in
-    rw (p.1, p.2) (sym (answer_refused (on_pictures s t d.book) (read_layer a.c a.x a.y) _ (check_refused s t d.book a.c (own_bitmap a.c (on_pictures s t d.book) (read_at a.x a.y) ∷ []) _ c.in-err-check-open.ensures)))
+    let p = err_from_is_err_and c.from_residual.result c.from_residual.ensures.1 in
+    rw (p.1, p.2) (sym (answer_refused (on_pictures s t d.book) (read_layer a.c a.x a.y) _ (check_refused s t d.book a.c (own_bitmap a.c (on_pictures s t d.book) (read_at a.x a.y) ∷ []) _ c.in_err-check_open.ensures)))
 
 pub returns-in-Err : goal.returns-in-Err
 returns-in-Err g c =
@@ -31,7 +31,7 @@ returns-in-Err g c =
     let refused = unless_err (bitmap_fault c.pane_size.result (read_at a.x a.y)) (nat_abs a.x, nat_abs a.y) c.in-Err.f (simp to_z-of_z at c.in-Err.ensures) in
     ap Err c.carried.ensures
     ∙ sym (answer_refused (on_pictures s t d.book) (read_layer a.c a.x a.y) (carry a.c c.in-Err.f)
-    (own_check s t d.book a.c c.in-ok-check-open.ensures (read_at a.x a.y)
+    (own_check s t d.book a.c c.in_ok-check_open.ensures (read_at a.x a.y)
     ∙ ap (λ (z : Size). carried a.c (bitmap_fault z (read_at a.x a.y))) (sym c.pane_size.ensures) ∙ ap (carried a.c) refused))
 
 pub returns-in-Ok : goal.returns-in-Ok
@@ -42,6 +42,6 @@ returns-in-Ok g c =
     let fy = c.ranges.y in
     let s = g.S.Bitmap.picture d.screen in
     let t = g.T.Bitmap.picture d.store in
-    own_pixel s t d.book a.c c.in-ok-check-open.ensures a.x a.y c.in-Ok.u c.in-Ok.v c.read-pixel.result
+    own_pixel s t d.book a.c c.in_ok-check_open.ensures a.x a.y c.in-Ok.u c.in-Ok.v c.read_pixel.result
     ((simp to_z-of_z at c.in-Ok.ensures) ∙ ap (λ (z : Size). unless (bitmap_fault z (read_at a.x a.y)) (nat_abs a.x, nat_abs a.y)) c.pane_size.ensures)
-    c.read-pixel.ensures
+    c.read_pixel.ensures

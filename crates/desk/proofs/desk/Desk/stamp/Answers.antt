@@ -1,8 +1,7 @@
-use Rattle.std.proofs.Common.{◌≡◌, sym, refl, ap, ◌∙◌, subst}
+use Rattle.std.proofs.Common.{refl}
 use Rattle.std.proofs.lemmas.Result.{err_from_is_err_and}
 use Rattle.std.proofs.lemmas.Int.{to_z-of_z}
 use Rattle.raster.specs.Blt.{transfer}
-use Rattle.raster.specs.declared.size.Size.{Size}
 use Rattle.paper.specs.Desk.{stamp_layer}
 use Rattle.desk.specs.Desks.{on_pictures, used_by}
 use Rattle.desk.proofs.Fits.{fitting}
@@ -10,17 +9,17 @@ use Rattle.desk.proofs.Idle.{refused_does}
 use Rattle.desk.proofs.Stamped.{stamp_fits, stamp_clipped, stamp_does}
 use Rattle.desk.proofs.desk.Desk.stamp.Goals as goal
 
-pub returns-in-err-rule : goal.returns-in-err-rule
-returns-in-err-rule g c =
+pub returns-in_err-rule : goal.returns-in_err-rule
+returns-in_err-rule g c =
     let a = c.args in
     let d = a.self.now in
     let s = g.S.Bitmap.picture d.screen in
     let t = g.T.Bitmap.picture d.store in
-    let p = err_from_is_err_and c.from-residual.result c.from-residual.ensures.1 in
+    let p = err_from_is_err_and c.from_residual.result c.from_residual.ensures.1 in
     rw (p.1, p.2)
     (record {
       does = refused_does s t d.book (stamp_layer a.c (transfer a.rule a.sx a.sy a.dx a.dy a.w a.h) (g.B.Bitmap.picture a.source.now)) _
-          (simp c.size-from.ensures at c.in-err-rule.ensures);
+          (simp c.size-from.ensures at c.in_err-rule.ensures);
       rest = record { screen = g.met.S.Bitmap.same d.screen; store = g.met.T.Bitmap.same d.store };
       refused = refl;
     })
@@ -34,13 +33,13 @@ returns g c =
     let t = g.T.Bitmap.picture d.store in
     let source = g.B.Bitmap.picture a.source.now in
     let move = transfer a.rule a.sx a.sy a.dx a.dy a.w a.h in
-    let ok = simp c.size-from.ensures at c.in-ok-rule.ensures.0 in
+    let ok = simp c.size-from.ensures at c.in_ok-rule.ensures.0 in
     let fsx = c.ranges.sx in
     let fsy = c.ranges.sy in
     let fdx = c.ranges.dx in
     let fdy = c.ranges.dy in
-    let clipped = stamp_clipped s t d.book a.c move source ok c.size-from.result c.pane-size-size.result c.in-ok-rule.rule c.clip-columns.result c.clip-rows.result
-    c.size-from.ensures c.pane-size-size.ensures c.in-ok-rule.ensures.1 (simp to_z-of_z at c.clip-columns.ensures) (simp to_z-of_z at c.clip-rows.ensures) in
+    let clipped = stamp_clipped s t d.book a.c move source ok c.size-from.result c.pane_size-size.result c.in_ok-rule.rule c.clip-columns.result c.clip-rows.result
+    c.size-from.ensures c.pane_size-size.ensures c.in_ok-rule.ensures.1 (simp to_z-of_z at c.clip-columns.ensures) (simp to_z-of_z at c.clip-rows.ensures) in
     record {
       does = stamp_does s t d.book a.c move source ok (g.S.Bitmap.picture c.stamp.new.screen) (g.T.Bitmap.picture c.stamp.new.store)
           (c.stamp.ensures.drawn move clipped (fitting s t d.book (stamp_fits s t d.book a.c move source ok))) c.stamp.result (c.stamp.ensures.count move clipped);

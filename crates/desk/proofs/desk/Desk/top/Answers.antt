@@ -11,8 +11,8 @@ use Rattle.desk.proofs.desk.Desk.top.Goals as goal
 asked : (r s : Size) (x y : ℤ) (t : Bool) → r ≡ s → t ≡ not (inside r x y) → t ≡ not (inside s x y)
 asked r s x y t e h = h ∙ ap (λ (z : Size). not (inside z x y)) e
 
-pub returns-then-is-err : goal.returns-then-is-err
-returns-then-is-err g c =
+pub returns-then-is_err : goal.returns-then-is_err
+returns-then-is_err g c =
     let a = c.args in
     let d = a.self.now in
     let fx = c.ranges.x in
@@ -20,7 +20,7 @@ returns-then-is-err g c =
     let s : Picture = g.S.Bitmap.picture d.screen in
     let test : true ≡ not (inside (sizes s) a.x a.y) =
     asked c.size.result (sizes s) a.x a.y true c.size.ensures
-    (c.if-is-err.ensures.value ∙ ap is_err (simp to_z-of_z at c.read-place.ensures) ∙ place_test c.size.result a.x a.y (nat_abs a.x, nat_abs a.y)) in
+    (c.if-is_err.ensures.value ∙ ap is_err (simp to_z-of_z at c.read_place.ensures) ∙ place_test c.size.result a.x a.y (nat_abs a.x, nat_abs a.y)) in
     ap Err c.because.ensures ∙ sym (top_off s (g.T.Bitmap.picture d.store) d.book a.x a.y (not-true (inside (sizes s) a.x a.y) (sym test)))
 
 pub returns-then-not-fits : goal.returns-then-not-fits
@@ -32,7 +32,7 @@ returns-then-not-fits g c =
     let s : Picture = g.S.Bitmap.picture d.screen in
     let test : false ≡ not (inside (sizes s) a.x a.y) =
     asked c.size.result (sizes s) a.x a.y false c.size.ensures
-    (c.if-is-err.ensures.value ∙ ap is_err (simp to_z-of_z at c.read-place.ensures) ∙ place_test c.size.result a.x a.y (nat_abs a.x, nat_abs a.y)) in
+    (c.if-is_err.ensures.value ∙ ap is_err (simp to_z-of_z at c.read_place.ensures) ∙ place_test c.size.result a.x a.y (nat_abs a.x, nat_abs a.y)) in
     sym (top_other s (g.T.Bitmap.picture d.store) d.book a.x a.y (not-false (inside (sizes s) a.x a.y) (sym test)) (sym c.if-not-fits.ensures))
 
 pub returns : goal.returns
@@ -44,6 +44,6 @@ returns g c =
     let s : Picture = g.S.Bitmap.picture d.screen in
     let test : false ≡ not (inside (sizes s) a.x a.y) =
     asked c.size.result (sizes s) a.x a.y false c.size.ensures
-    (c.if-is-err.ensures.value ∙ ap is_err (simp to_z-of_z at c.read-place.ensures) ∙ place_test c.size.result a.x a.y (nat_abs a.x, nat_abs a.y)) in
+    (c.if-is_err.ensures.value ∙ ap is_err (simp to_z-of_z at c.read_place.ensures) ∙ place_test c.size.result a.x a.y (nat_abs a.x, nat_abs a.y)) in
     ap Ok (simp to_z-of_z at c.top.ensures)
     ∙ sym (top_fits s (g.T.Bitmap.picture d.store) d.book a.x a.y (not-false (inside (sizes s) a.x a.y) (sym test)) (sym c.if-not-fits.ensures))
