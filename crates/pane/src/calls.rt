@@ -2,6 +2,7 @@
 //! refuses only if the client has no open layer, and then there is no pixel to draw.
 ghost use Rattle.pane.specs.Panes.{picture_of, PaneKept};
 ghost use Rattle.pane.specs.Sounds.{pane_sound};
+ghost use Rattle.pane.specs.Joins.{pane_same, pane_joins};
 
 use crate::pane::Pane;
 use raster::{Bitmap, Blit, Fault, Size};
@@ -12,6 +13,10 @@ impl<S: Bitmap, T: Bitmap> Bitmap for Pane<S, T> {
     ghost keeps = { PaneKept S.Bitmap T.Bitmap };
 
     ghost sound = { λ p. pane_sound (S.Bitmap.picture p.desk.screen) (T.Bitmap.picture p.desk.store) (S.Bitmap.sound p.desk.screen) p.desk.book p.client };
+
+    ghost same = { pane_same (record { picture = S.Bitmap.picture; keeps = S.Bitmap.keeps }) (record { picture = T.Bitmap.picture; keeps = T.Bitmap.keeps }) S.Bitmap.same T.Bitmap.same };
+
+    ghost joins = { pane_joins (record { picture = S.Bitmap.picture; keeps = S.Bitmap.keeps }) (record { picture = T.Bitmap.picture; keeps = T.Bitmap.keeps }) S.Bitmap.joins T.Bitmap.joins };
 
     fn size(&self) -> Size {
         self.desk.pane_size(self.client)

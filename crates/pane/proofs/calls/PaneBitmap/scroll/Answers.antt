@@ -11,20 +11,21 @@ use Rattle.paper.specs.Run.{Does}
 use Rattle.paper.proofs.Draws.{scrolls}
 use Rattle.desk.specs.Desks.{state_of}
 use Rattle.pane.specs.Panes.{picture_of}
-use Rattle.pane.proofs.Kept.{pane_same, pane_drawn, pane_kept}
+use Rattle.pane.specs.Joins.{pane_same}
+use Rattle.pane.proofs.Kept.{pane_drawn, pane_kept}
 use Rattle.pane.proofs.calls.PaneBitmap.scroll.Goals as goal
 
-pub returns-in-err-blit : goal.returns-in-err-blit
-returns-in-err-blit g c =
+pub returns-in_err-blit : goal.returns-in_err-blit
+returns-in_err-blit g c =
     let a = c.args in
     let f1 = c.ranges.sx in
     let f2 = c.ranges.sy in
     let f3 = c.ranges.dx in
     let f4 = c.ranges.dy in
     let call = scroll_by (transfer a.rule a.sx a.sy a.dx a.dy a.w a.h) in
-    let p = err_from_is_err_and c.from-residual.result c.from-residual.ensures.1 in
+    let p = err_from_is_err_and c.from_residual.result c.from_residual.ensures.1 in
     let r = refused (picture_of g.S.Bitmap g.T.Bitmap a.self.now) call _
-    (ap (λ (z : Size). bitmap_fault z call) (sym c.size.ensures) ∙ (simp to_z-of_z at c.in-err-blit.ensures)) in
+    (ap (λ (z : Size). bitmap_fault z call) (sym c.size.ensures) ∙ (simp to_z-of_z at c.in_err-blit.ensures)) in
     rw (p.1, p.2)
     (record { answer = r.answer; after = r.after; rest = pane_same g.S.Bitmap g.T.Bitmap g.met.S.Bitmap.same g.met.T.Bitmap.same a.self.now; refused = refl })
 
@@ -39,8 +40,8 @@ returns g c =
     let f3 = c.ranges.dx in
     let f4 = c.ranges.dy in
     let call = scroll_by (transfer a.rule a.sx a.sy a.dx a.dy a.w a.h) in
-    let b = c.in-ok-blit.blit in
-    let d = blit_painted (picture_of s t p) call b (subst (λ (z : Size). Performs z call b) c.size.ensures (simp to_z-of_z at c.in-ok-blit.ensures)) in
+    let b = c.in_ok-blit.blit in
+    let d = blit_painted (picture_of s t p) call b (subst (λ (z : Size). Performs z call b) c.size.ensures (simp to_z-of_z at c.in_ok-blit.ensures)) in
     let last = c.scroll-2.new.self in
     let does : Does (state_of s t p.desk) (scroll_layer p.client (transfer a.rule a.sx a.sy a.dx a.dy a.w a.h)) c.scroll-2.result (state_of s t last) = simp to_z-of_z at c.scroll-2.ensures.does in
     record {

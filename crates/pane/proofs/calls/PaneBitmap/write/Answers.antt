@@ -9,19 +9,20 @@ use Rattle.paper.proofs.Draws.{fills}
 use Rattle.desk.specs.Desks.{state_of}
 use Rattle.pane.specs.Panes.{picture_of}
 use Rattle.pane.proofs.Drawings.{at_size, write_fills}
-use Rattle.pane.proofs.Kept.{pane_same, pane_drawn, pane_kept}
+use Rattle.pane.specs.Joins.{pane_same}
+use Rattle.pane.proofs.Kept.{pane_drawn, pane_kept}
 use Rattle.pane.proofs.calls.PaneBitmap.write.Goals as goal
 
-pub returns-in-err-write-place : goal.returns-in-err-write-place
-returns-in-err-write-place g c =
+pub returns-in_err-write_place : goal.returns-in_err-write_place
+returns-in_err-write_place g c =
     let a = c.args in
     let fx = c.ranges.x in
     let fy = c.ranges.y in
     let p = picture_of g.S.Bitmap g.T.Bitmap a.self.now in
     let call = write_at a.x a.y a.v in
-    let e = err_from_is_err_and c.from-residual.result c.from-residual.ensures.1 in
+    let e = err_from_is_err_and c.from_residual.result c.from_residual.ensures.1 in
     let place : ℕ × ℕ = (nat_abs a.x, nat_abs a.y) in
-    let r = place_refused p call _ place (at_size p call place c.size.ensures (simp to_z-of_z at c.in-err-write-place.ensures)) in
+    let r = place_refused p call _ place (at_size p call place c.size.ensures (simp to_z-of_z at c.in_err-write_place.ensures)) in
     rw (e.1, e.2)
     (record { answer = r.answer; after = r.after; rest = pane_same g.S.Bitmap g.T.Bitmap g.met.S.Bitmap.same g.met.T.Bitmap.same a.self.now; refused = refl })
 
@@ -33,7 +34,7 @@ returns g c =
     let t = g.T.Bitmap in
     let fx = c.ranges.x in
     let fy = c.ranges.y in
-    let ok = at_size (picture_of s t p) (write_at a.x a.y a.v) (nat_abs a.x, nat_abs a.y) c.size.ensures (simp to_z-of_z at c.in-ok-write-place.ensures) in
+    let ok = at_size (picture_of s t p) (write_at a.x a.y a.v) (nat_abs a.x, nat_abs a.y) c.size.ensures (simp to_z-of_z at c.in_ok-write_place.ensures) in
     let last = c.fill.new.self in
     let does : Does (state_of s t p.desk) (fill_layer p.client 3 a.v a.x a.y 1 1) c.fill.result (state_of s t last) = simp to_z-of_z at c.fill.ensures.does in
     record {
