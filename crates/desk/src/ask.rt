@@ -41,20 +41,33 @@ pub(crate) fn slots_there(store: Size, depth: u8) -> u16
 }
 
 impl<S: Bitmap, T: Bitmap> Desk<S, T> {
+    /// Whether the book was made for the store and the screen, where the screen is of a size.
+    fn suits(&self, screen: Size) -> bool
+        ensures { screen ≡ sizes (S.Bitmap.picture self.now.screen) → result ≡ made_for (S.Bitmap.picture self.now.screen) (T.Bitmap.picture self.now.store) self.now.book }
+    {
+        let slots = slots_there(self.store.size(), screen.depth);
+        same_size(self.book.plan.screen(), screen) && self.book.slots.places() == slots
+    }
+
     /// Whether the book was made for the screen and the store.
     pub(crate) fn fits(&self) -> bool
         ensures { result ≡ made_for (S.Bitmap.picture self.now.screen) (T.Bitmap.picture self.now.store) self.now.book }
     {
-        let size = self.screen.size();
-        let slots = slots_there(self.store.size(), size.depth);
-        same_size(self.book.plan.screen(), size) && self.book.slots.places() == slots
+        self.suits(self.screen.size())
+    }
+
+    /// Whether the client has an open layer, where the screen is of a size.
+    fn open_on(&self, screen: Size, c: u8) -> bool
+        ensures { screen ≡ sizes (S.Bitmap.picture self.now.screen) → result ≡ is_open c (on_paper S.Bitmap T.Bitmap self.now) }
+    {
+        self.suits(screen) && self.book.plan.is_open(c)
     }
 
     /// Whether the client has an open layer.
     pub(crate) fn is_open(&self, c: u8) -> bool
         ensures { result ≡ is_open c (on_paper S.Bitmap T.Bitmap self.now) }
     {
-        self.fits() && self.book.plan.is_open(c)
+        self.open_on(self.screen.size(), c)
     }
 
     /// Refuses a client above 7, and one that has no open layer.
@@ -74,19 +87,19 @@ impl<S: Bitmap, T: Bitmap> Desk<S, T> {
     pub fn pane_size(&self, c: u8) -> Size
         ensures { result ≡ sizes (pane c (on_paper S.Bitmap T.Bitmap self.now)) }
     {
-        let depth = self.screen.size().depth;
-        if !self.is_open(c) {
+        let screen = self.screen.size(); // asked once, since a screen may be a pane, which asks the desk below
+        if !self.open_on(screen, c) {
             return Size {
                 width: 0,
                 height: 0,
-                depth,
+                depth: screen.depth,
             };
         }
         let frame = self.book.plan.frame(c);
         Size {
             width: frame.w,
             height: frame.h,
-            depth,
+            depth: screen.depth,
         }
     }
 
@@ -94,10 +107,11 @@ impl<S: Bitmap, T: Bitmap> Desk<S, T> {
     pub fn top(&self, x: i16, y: i16) -> Result<Option<u8>, DeskFault>
         ensures { result ≡ top_answer (on_paper S.Bitmap T.Bitmap self.now) x y }
     {
-        if self.screen.size().read_place(x, y).is_err() {
+        let screen = self.screen.size();
+        if screen.read_place(x, y).is_err() {
             return Err(because(Refusal::OutsideBitmap, 255));
         }
-        if !self.fits() {
+        if !self.suits(screen) {
             return Ok(None);
         }
         Ok(self.book.plan.top(x, y))

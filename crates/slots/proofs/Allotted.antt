@@ -1,6 +1,6 @@
 -- Tables adjusted where a change can tell are right for all patches.
 use Rattle.std.proofs.Common.{◌≡◌, ℕ, ◌/◌, ◌<◌, ◌≤◌, Bool, true, false, cond, ◌&&◌, ◌||◌, eqb, sym, refl, ap, ◌∙◌, ⊎_elim, arith}
-use Rattle.std.proofs.lemmas.Bool.{cases_Bool, ne_eqb, and_left, and_right, or_left, or_right, or_cases}
+use Rattle.std.proofs.lemmas.Bool.{ne_eqb, and_left, and_right, or_left, or_right, or_cases}
 use Rattle.plan.specs.declared.frame.Frame.{Frame}
 use Rattle.plan.specs.declared.plan.Plan.{Plan}
 use Rattle.plan.specs.Frames.{has}
@@ -9,7 +9,7 @@ use Rattle.slots.specs.declared.slots.Slots.{Slots}
 use Rattle.slots.specs.Allots.{Retained, Supplied}
 use Rattle.slots.specs.Changes.{Concerns}
 use Rattle.slots.specs.Entries.{passing}
-use Rattle.slots.specs.Tables.{slot_of, has_slot, Fits}
+use Rattle.slots.specs.Tables.{has_slot, Fits}
 use Rattle.slots.specs.Walks.{Short, InLayer, Clear, AdjustedBut, AdjustsBut}
 use Rattle.slots.proofs.Changes.{same_hidden, same_needs}
 use Rattle.slots.proofs.Counts.{counted_alike, counted_fewer}

@@ -1,7 +1,7 @@
 -- A change of one layer is no matter to the patches that neither its frame before nor its frame after meets.
-use Rattle.std.proofs.Common.{◌≡◌, ℕ, ◌+◌, ◌*◌, ◌/◌, ◌%◌, ◌<◌, ◌≤◌, min, Bool, true, false, cond, not, ◌&&◌, ◌||◌, eqb, ltb, ◌⊎◌, List, [], ◌∷◌, get_or, ℤ, pos, ◌+ℤ◌, sym, refl, ap, ◌∙◌, subst, ap₂, inl, inr, ⊎_elim, arith}
+use Rattle.std.proofs.Common.{◌≡◌, ℕ, ◌+◌, ◌/◌, ◌%◌, ◌<◌, ◌≤◌, min, Bool, true, false, cond, not, ◌&&◌, ◌||◌, eqb, ltb, ◌⊎◌, List, [], ◌∷◌, get_or, ℤ, pos, ◌+ℤ◌, sym, refl, ap, ◌∙◌, ap₂, inl, inr, ⊎_elim, arith}
 use Rattle.std.proofs.lemmas.Int.{ints}
-use Rattle.std.proofs.lemmas.Bool.{cases_Bool, cases_eq, cases_lt, both_ways, eqb-true, eq-eqb, ne_eqb, and_from, and_left, and_right, le-ltb, or_left, or_right}
+use Rattle.std.proofs.lemmas.Bool.{cases_Bool, cases_eq, cases_lt, both_ways, eqb-true, eq-eqb, and_from, and_left, and_right, le-ltb, or_left, or_right}
 use Rattle.std.proofs.lemmas.Bool.Decides.{nat_tests}
 use Rattle.raster.specs.declared.size.Size.{Size}
 use Rattle.paper.specs.Layers.{Layer, without}
@@ -10,7 +10,6 @@ use Rattle.plan.specs.declared.plan.Plan.{Plan}
 use Rattle.plan.specs.Frames.{no_frame, has}
 use Rattle.plan.specs.Plans.{listed, layers_in, frame_in, outline, outlines, above, hidden_patch, patch_of, needs}
 use Rattle.plan.specs.Areas.{reaches, meets, met, on_screen, hidden_area}
-use Rattle.plan.proofs.Orders.{flip}
 use Rattle.plan.proofs.Patches.{hidden_at}
 use Rattle.slots.specs.Blocks.{patch_x, patch_y, InFrame, patch_met}
 use Rattle.slots.specs.Changes.{Concerns}

@@ -1,6 +1,6 @@
 -- The calls that rearrange layers concern one client's layer.
-use Rattle.std.proofs.Common.{◌≡◌, ℕ, Bool, true, false, not, ◌&&◌, ◌||◌, eqb, List, [], ◌∷◌, ◌++◌, ℤ, sym, refl, ap, ◌∙◌}
-use Rattle.std.proofs.lemmas.Bool.{both_ways, eq-eqb, ne_eqb, and_from, and_left}
+use Rattle.std.proofs.Common.{◌≡◌, ℕ, Bool, true, false, not, ◌&&◌, ◌||◌, eqb, [], ◌∷◌, ◌++◌, ℤ, sym, refl, ap, ◌∙◌}
+use Rattle.std.proofs.lemmas.Bool.{both_ways, eq-eqb, ne_eqb}
 use Rattle.paper.specs.Layers.{without, only, alter, at_corner}
 use Rattle.paper.proofs.Order.{without_without, without_raised, without_lowered, without_last, without_altered}
 use Rattle.plan.specs.declared.frame.Frame.{Frame}

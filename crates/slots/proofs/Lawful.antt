@@ -1,15 +1,13 @@
 -- Patches counted by their numbers are those that a desk on paper counts.
-use Rattle.std.proofs.Common.{◌≡◌, ℕ, ◌+◌, ◌*◌, ◌/◌, ◌%◌, ◌<◌, ◌≤◌, Bool, true, false, cond, not, ◌&&◌, ◌||◌, eqb, ltb, ◌⊎◌, sym, refl, ap, ◌∙◌, ap₂, inl, inr, ⊎_elim, arith}
-use Rattle.std.proofs.lemmas.Bool.{cases_Bool, eqb-true, ne_eqb, or_from, and_from, and_left, and_right, lt-ltb, le-ltb, not_from_false, both_ways}
-use Rattle.std.proofs.lemmas.Bool.Decides.{nat_tests}
+use Rattle.std.proofs.Common.{◌≡◌, ℕ, ◌*◌, ◌<◌, ◌≤◌, Bool, true, false, cond, ◌&&◌, ◌||◌, eqb, ltb, ◌⊎◌, sym, refl, ap, ◌∙◌, inl, inr, ⊎_elim, arith}
+use Rattle.std.proofs.lemmas.Bool.{eqb-true, ne_eqb, or_from, and_from, and_left, and_right, lt-ltb, le-ltb, both_ways}
 use Rattle.paper.specs.Slots.{hidden_in, patches_in, count_patches, hidden_count, slots_needed}
 use Rattle.plan.specs.declared.frame.Frame.{Frame}
 use Rattle.plan.specs.declared.plan.Plan.{Plan}
 use Rattle.plan.specs.Frames.{has}
 use Rattle.plan.specs.Plans.{listed, layers_in, frame_in, outline, above, hidden_patch, needs}
-use Rattle.plan.specs.Areas.{hidden_area}
 use Rattle.slots.specs.Entries.{passing}
-use Rattle.slots.specs.Laws.{desk_in, StillOpen, AllStillOpen, PatchLaws}
+use Rattle.slots.specs.Laws.{desk_in, AllStillOpen, PatchLaws}
 use Rattle.plan.proofs.Orders.{flip}
 use Rattle.plan.proofs.Sifts.{open_low}
 use Rattle.plan.proofs.Patches.{hidden_closed, hidden_at, no_area}

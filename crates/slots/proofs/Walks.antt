@@ -8,8 +8,7 @@ use Rattle.plan.specs.Frames.{has}
 use Rattle.plan.specs.Plans.{listed, frame_in}
 use Rattle.slots.specs.declared.slots.Slots.{Slots}
 use Rattle.slots.specs.Blocks.{InFrame, patch_met}
-use Rattle.slots.specs.Entries.{passing}
-use Rattle.slots.specs.Tables.{slot_of, has_slot}
+use Rattle.slots.specs.Tables.{has_slot}
 use Rattle.slots.specs.Walks.{Adjusted, Short, Adjusts, InLayer, Clear, AdjustedBut, AdjustsBut}
 use Rattle.slots.proofs.Counts.{counted_fewer, counted_less}
 

@@ -1,5 +1,5 @@
 -- Patches counted by their numbers are those that a desk on paper counts.
-use Rattle.std.specs.Prelude.{◌≡◌, ℕ, Bool, true, false, nat_eq}
+use Rattle.std.specs.Prelude.{◌≡◌, ℕ, true, false, nat_eq}
 use Rattle.paper.specs.Layers.{Desk}
 use Rattle.paper.specs.Slots.{hidden_count, slots_needed}
 use Rattle.plan.specs.declared.plan.Plan.{Plan}

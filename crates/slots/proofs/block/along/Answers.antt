@@ -1,4 +1,4 @@
-use Rattle.std.proofs.Common.{◌≡◌, ℕ, ◌+◌, ◌-◌, ◌*◌, ◌/◌, ◌<◌, ◌≤◌, min, ◌∙◌, ap₂, arith, w16}
+use Rattle.std.proofs.Common.{◌≡◌, ◌∙◌, ap₂, arith, w16}
 use Rattle.std.proofs.lemmas.Int.{to_z-of_z}
 use Rattle.slots.specs.Blocks.{past}
 use Rattle.slots.proofs.Blocks.{past_first, past_last}
@@ -13,7 +13,7 @@ returns c =
     let f : c.past-2.result ≡ past a.y a.m a.x = c.past-2.ensures ∙ ap₂ (λ y x. past y a.m x) ey ex in
     let from = c.min-from.ensures in
     let to = c.min-to.ensures in
-    let count = c.saturating-sub.ensures in
+    let count = c.saturating_sub.ensures in
     record {
       few = omega arith;
       all = λ i h r. let first = past_first a.x a.y a.n a.m i h r in let last = past_last a.x a.y a.n a.m i h r in (omega arith, omega arith);

@@ -1,4 +1,4 @@
-use Rattle.std.proofs.Common.{◌<◌, arith, w16, SFits, rules}
+use Rattle.std.proofs.Common.{arith, w16, SFits, rules}
 use Rattle.std.proofs.lemmas.Int.{to_z-of_z}
 use Rattle.slots.proofs.Blocks.{reached_at, near_has}
 use Rattle.slots.proofs.block.near.Goals as goal

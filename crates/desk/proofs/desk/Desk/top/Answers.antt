@@ -19,21 +19,21 @@ returns-then-is_err g c =
     let fy = c.ranges.y in
     let s : Picture = g.S.Bitmap.picture d.screen in
     let test : true ≡ not (inside (sizes s) a.x a.y) =
-    asked c.size.result (sizes s) a.x a.y true c.size.ensures
-    (c.if-is_err.ensures.value ∙ ap is_err (simp to_z-of_z at c.read_place.ensures) ∙ place_test c.size.result a.x a.y (nat_abs a.x, nat_abs a.y)) in
+    asked c.size-screen.result (sizes s) a.x a.y true c.size-screen.ensures
+    (c.if-is_err.ensures.value ∙ ap is_err (simp to_z-of_z at c.read_place.ensures) ∙ place_test c.size-screen.result a.x a.y (nat_abs a.x, nat_abs a.y)) in
     ap Err c.because.ensures ∙ sym (top_off s (g.T.Bitmap.picture d.store) d.book a.x a.y (not-true (inside (sizes s) a.x a.y) (sym test)))
 
-pub returns-then-not-fits : goal.returns-then-not-fits
-returns-then-not-fits g c =
+pub returns-then-not-suits : goal.returns-then-not-suits
+returns-then-not-suits g c =
     let a = c.args in
     let d = a.self.now in
     let fx = c.ranges.x in
     let fy = c.ranges.y in
     let s : Picture = g.S.Bitmap.picture d.screen in
     let test : false ≡ not (inside (sizes s) a.x a.y) =
-    asked c.size.result (sizes s) a.x a.y false c.size.ensures
-    (c.if-is_err.ensures.value ∙ ap is_err (simp to_z-of_z at c.read_place.ensures) ∙ place_test c.size.result a.x a.y (nat_abs a.x, nat_abs a.y)) in
-    sym (top_other s (g.T.Bitmap.picture d.store) d.book a.x a.y (not-false (inside (sizes s) a.x a.y) (sym test)) (sym c.if-not-fits.ensures))
+    asked c.size-screen.result (sizes s) a.x a.y false c.size-screen.ensures
+    (c.if-is_err.ensures.value ∙ ap is_err (simp to_z-of_z at c.read_place.ensures) ∙ place_test c.size-screen.result a.x a.y (nat_abs a.x, nat_abs a.y)) in
+    sym (top_other s (g.T.Bitmap.picture d.store) d.book a.x a.y (not-false (inside (sizes s) a.x a.y) (sym test)) (sym (c.if-not-suits.ensures c.size-screen.ensures)))
 
 pub returns : goal.returns
 returns g c =
@@ -43,7 +43,7 @@ returns g c =
     let fy = c.ranges.y in
     let s : Picture = g.S.Bitmap.picture d.screen in
     let test : false ≡ not (inside (sizes s) a.x a.y) =
-    asked c.size.result (sizes s) a.x a.y false c.size.ensures
-    (c.if-is_err.ensures.value ∙ ap is_err (simp to_z-of_z at c.read_place.ensures) ∙ place_test c.size.result a.x a.y (nat_abs a.x, nat_abs a.y)) in
+    asked c.size-screen.result (sizes s) a.x a.y false c.size-screen.ensures
+    (c.if-is_err.ensures.value ∙ ap is_err (simp to_z-of_z at c.read_place.ensures) ∙ place_test c.size-screen.result a.x a.y (nat_abs a.x, nat_abs a.y)) in
     ap Ok (simp to_z-of_z at c.top.ensures)
-    ∙ sym (top_fits s (g.T.Bitmap.picture d.store) d.book a.x a.y (not-false (inside (sizes s) a.x a.y) (sym test)) (sym c.if-not-fits.ensures))
+    ∙ sym (top_fits s (g.T.Bitmap.picture d.store) d.book a.x a.y (not-false (inside (sizes s) a.x a.y) (sym test)) (sym (c.if-not-suits.ensures c.size-screen.ensures)))

@@ -1,4 +1,4 @@
-use Rattle.std.proofs.Common.{ℕ, ◌/◌, ◌<◌}
+use Rattle.std.proofs.Common.{◌/◌, ◌<◌}
 use Rattle.slots.specs.Walks.{needed, InLayer, Clear, AdjustedBut}
 use Rattle.slots.proofs.slots.Slots.adjust.Given as goal
 

@@ -1,24 +1,24 @@
-use Rattle.std.proofs.Common.{◌≡◌, ℕ, ◌/◌, sym}
+use Rattle.std.proofs.Common.{◌≡◌, ◌/◌, sym}
 use Rattle.slots.specs.Blocks.{in_block}
 use Rattle.slots.specs.Walks.{needed, InLayer, Clear}
 use Rattle.slots.proofs.Walks.{but_none, but_both, layer_clear, layer_shut}
 use Rattle.slots.proofs.slots.Slots.adjust_layer.Goals as goal
 
-pub returns-then-not-is-open : goal.returns-then-not-is-open
-returns-then-not-is-open c =
+pub returns-then-not-is_open : goal.returns-then-not-is_open
+returns-then-not-is_open c =
     let a = c.args in
-    but_none (needed a.change.now) _ a.self.now (λ k _ e i. absurd (layer_shut a.change.now.after a.c a.d k c.if-d-c.true (sym c.if-not-is-open.ensures) e i))
+    but_none (needed a.change.now) _ a.self.now (λ k _ e i. absurd (layer_shut a.change.now.after a.c a.d k c.if-d-c.true (sym c.if-not-is_open.ensures) e i))
 
-pub returns-then-adjust-block : goal.returns-then-adjust-block
-returns-then-adjust-block c =
+pub returns-then-adjust_block : goal.returns-then-adjust_block
+returns-then-adjust_block c =
     let a = c.args in
     let q = a.change.now.after in
     let one = c.near.result in
-    let two = c.near-then-adjust-block.result in
+    let two = c.near-then-adjust_block.result in
     let P = in_block one.first one.columns one.rows in
     let Q = in_block two.first two.columns two.rows in
-    but_both (needed a.change.now) (λ k. k / 300 ≡ a.d → InLayer q a.c k → Clear q a.c a.area k) P a.self.now c.adjust-block.new.self c.adjust-block-then-adjust-block.new.self
-    c.if-adjust-block.ensures Q
+    but_both (needed a.change.now) (λ k. k / 300 ≡ a.d → InLayer q a.c k → Clear q a.c a.area k) P a.self.now c.adjust_block.new.self c.adjust_block-then-adjust_block.new.self
+    c.if-adjust_block.ensures Q
     (λ k _ p r. layer_clear q a.c a.d a.area c.frame-own.result c.frame-frame.result P Q c.frame-frame.ensures c.frame-own.ensures c.near.ensures.all
-    c.near-then-adjust-block.ensures.all k p r)
-    c.adjust-block-then-adjust-block.result c.adjust-block-then-adjust-block.ensures
+    c.near-then-adjust_block.ensures.all k p r)
+    c.adjust_block-then-adjust_block.result c.adjust_block-then-adjust_block.ensures
