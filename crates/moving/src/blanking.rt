@@ -1,17 +1,11 @@
 //! Blanking: the slots of a client's patches are set to 0.
-ghost use Rattle.std.specs.Prelude.{◌≡◌, ◌+◌, ◌*◌, ◌/◌, ◌<◌, ◌≤◌, pos};
+ghost use Rattle.std.specs.Prelude.{◌≡◌, ◌+◌, ◌*◌, ◌/◌, ◌<◌, ◌≤◌};
 ghost use Rattle.raster.specs.Picture.{sizes, painted};
 ghost use Rattle.moving.specs.Phases.{in_slot, Blanked};
 
+use crate::pixel::signed;
 use plan::Slots;
 use raster::Bitmap;
-
-/// A coordinate as the calls of a bitmap take it.
-fn signed(a: u16) -> i16
-    ensures { a < 32768 → result ≡ pos a }
-{
-    if a < 32768 { a as i16 } else { -1 }
-}
 
 /// Sets a slot of the store to 0.
 fn blank_slot<T: Bitmap>(store: &mut T, k: u16)

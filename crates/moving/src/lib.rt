@@ -5,6 +5,7 @@ mod backing;
 mod blanking;
 mod laws;
 mod painting;
+mod pixel;
 mod stowing;
 
 pub use backing::Backing;

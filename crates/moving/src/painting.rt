@@ -4,7 +4,8 @@ ghost use Rattle.raster.specs.Picture.{sizes};
 ghost use Rattle.moving.specs.Phases.{Fitting, on_screen, just, in_row, changes, taken, repainted};
 
 use crate::backing::{Backing, behind};
-use hold::{masked, pixel, set_pixel};
+use crate::pixel::masked;
+use hold::{pixel, set_pixel};
 use plan::{Frame, Plan, Slots};
 use raster::{Bitmap, Span};
 
