@@ -25,7 +25,7 @@ fn has_patch(plan: &Plan, c: u8, patch: u16) -> bool
 
 impl Change {
     /// Whether a patch needs a slot while the change lasts.
-    pub fn needs(&self, patch: u16) -> bool
+    pub(crate) fn needs(&self, patch: u16) -> bool
         requires { patch < 2400 }
         ensures { result ≡ needs self.now.before self.now.after self.now.moved patch }
     {
