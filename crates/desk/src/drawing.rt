@@ -1,5 +1,4 @@
 //! Drawing on a layer.
-ghost use Rattle.std.specs.Prelude.{◌≡◌};
 ghost use Rattle.raster.specs.Blt.{transfer};
 ghost use Rattle.raster.specs.Picture.{sizes};
 ghost use Rattle.raster.specs.Calls.{BitmapCall, Unaltered};

@@ -1,5 +1,4 @@
 //! A layer moved to another corner.
-ghost use Rattle.std.specs.Prelude.{◌≡◌};
 ghost use Rattle.raster.specs.Calls.{Unaltered};
 ghost use Rattle.paper.specs.Desk.{move_layer};
 ghost use Rattle.paper.specs.Run.{Does};

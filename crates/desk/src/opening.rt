@@ -1,5 +1,5 @@
 //! Making a desk, opening a layer, and taking a desk apart.
-ghost use Rattle.std.specs.Prelude.{◌≡◌, ◌≤◌, true, [], ◌∷◌};
+ghost use Rattle.std.specs.Prelude.{◌≡◌, true, [], ◌∷◌};
 ghost use Rattle.raster.specs.Calls.{unless, first_fault, Unaltered};
 ghost use Rattle.raster.specs.Picture.{sizes};
 ghost use Rattle.raster.specs.declared.size.Size.{Size};

@@ -1,5 +1,5 @@
 //! Layers closed, raised and lowered.
-ghost use Rattle.std.specs.Prelude.{◌≡◌, ℕ, ◌<◌, ◌≤◌, MatchResult};
+ghost use Rattle.std.specs.Prelude.{◌≡◌, ◌<◌, ◌≤◌, MatchResult};
 ghost use Rattle.raster.specs.Calls.{Unaltered};
 ghost use Rattle.raster.specs.declared.refusal.Refusal.TheVariants.{TooFewSlots};
 ghost use Rattle.paper.specs.Desk.{Call, because, close_layer, raise_layer, lower_layer};

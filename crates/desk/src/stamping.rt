@@ -1,5 +1,5 @@
 //! Stamping another bitmap on a layer.
-ghost use Rattle.std.specs.Prelude.{◌≡◌, [], ◌∷◌, Some, None, MatchResult};
+ghost use Rattle.std.specs.Prelude.{◌≡◌, Some, None, MatchResult};
 ghost use Rattle.raster.specs.Blt.{transfer};
 ghost use Rattle.raster.specs.Calls.{Unaltered, first_fault};
 ghost use Rattle.paper.specs.Desk.{stamp_layer};

@@ -1,5 +1,4 @@
 //! Single pixels of layers, combined with a source pixel.
-ghost use Rattle.std.specs.Prelude.{◌≡◌};
 ghost use Rattle.hold.specs.Held.{OwnPixel};
 ghost use Rattle.hold.specs.Bitmaps.{Draws};
 ghost use Rattle.draw.specs.Touches.{touched};

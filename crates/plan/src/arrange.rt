@@ -1,5 +1,5 @@
 //! Layers opened, closed, moved and put in another order.
-ghost use Rattle.std.specs.Prelude.{◌≡◌, ℕ, ◌+◌, ◌<◌, ◌≤◌, true, false, cond, not, ◌&&◌, ◌||◌, [], ◌∷◌, ◌++◌, length, take, replicate, ◌==◌, slice_index};
+ghost use Rattle.std.specs.Prelude.{◌≡◌, ℕ, ◌+◌, ◌<◌, ◌≤◌, true, false, not, ◌&&◌, ◌||◌, [], ◌∷◌, ◌++◌, length, take, replicate, ◌==◌, slice_index};
 ghost use Rattle.paper.specs.Layers.{without, only, alter, at_corner};
 ghost use Rattle.plan.specs.Frames.{has, distinct};
 ghost use Rattle.plan.specs.Plans.{listed, layers_in, frame_in, outline};
@@ -31,7 +31,7 @@ impl Plan {
 
     /// The same frames in another order.
     fn reordered(&self, order: [u8; 8], count: u8) -> Plan
-        requires { (count ≤ 8) × ((((k : ℕ) → slice_index order k < 8)) × (distinct (take count order) ≡ true)) }
+        requires { (count ≤ 8) × (((k : ℕ) → slice_index order k < 8) × (distinct (take count order) ≡ true)) }
         ensures order { listed result ≡ take count order }
         ensures frames { result.frames ≡ self.now.frames }
         ensures screen { result.screen ≡ self.now.screen }

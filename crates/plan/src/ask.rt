@@ -1,5 +1,5 @@
 //! Questions about an arrangement.
-ghost use Rattle.std.specs.Prelude.{◌≡◌, ℕ, ◌<◌, ◌≤◌, true, not, ◌&&◌, drop, pos, ◌+ℤ◌, if◌then◌else◌, Some, None, nat_lt, unsigned_abs};
+ghost use Rattle.std.specs.Prelude.{◌≡◌, ◌<◌, ◌≤◌, true, not, ◌&&◌, drop, pos, ◌+ℤ◌, if◌then◌else◌, Some, None, nat_lt, unsigned_abs};
 ghost use Rattle.raster.specs.Blt.{holds, inside};
 ghost use Rattle.paper.specs.Layers.{topmost, covered};
 ghost use Rattle.paper.specs.Desk.{client_if};

@@ -1,5 +1,5 @@
 //! Lists that say of each patch whether it passes a test.
-ghost use Rattle.std.specs.Prelude.{◌≡◌, ℕ, ◌<◌, ◌≤◌, false, cond, ◌&&◌, length, slice_index_or};
+ghost use Rattle.std.specs.Prelude.{◌≡◌, ◌<◌, false, ◌&&◌, slice_index_or};
 ghost use Rattle.plan.specs.Plans.{hidden_patch, patch_of, needs};
 ghost use Rattle.plan.specs.Allots.{Marks, passing};
 

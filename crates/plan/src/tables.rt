@@ -1,5 +1,5 @@
 //! Slots that patches have, get and give back.
-ghost use Rattle.std.specs.Prelude.{◌≡◌, ℕ, ◌<◌, ◌≤◌, true, false, ◌&&◌, get_or, if◌then◌else◌, Some, None, nat_lt, slice_index_or};
+ghost use Rattle.std.specs.Prelude.{◌≡◌, ℕ, ◌<◌, ◌≤◌, true, false, ◌&&◌, if◌then◌else◌, Some, None, nat_lt, slice_index_or};
 ghost use Rattle.plan.specs.Plans.{slot_of, has_slot, hidden_patch, needs};
 ghost use Rattle.plan.specs.Allots.{passing, Retained, Taken, Supplied, Allotted};
 
@@ -21,7 +21,7 @@ impl Slots {
 
     /// The table in which the marked patches have the slots that they had, and the others none.
     fn retained(&self, marks: &[bool; 2400]) -> Slots
-        ensures { Retained self.now (λ k. get_or marks.now k false) result }
+        ensures { Retained self.now (λ k. slice_index_or marks.now k false) result }
     {
         let mut table = self.table;
         for k in 0..2400usize {
@@ -51,8 +51,8 @@ impl Slots {
 
     /// The table in which the marked patches have slots, those that they had and else free ones.
     fn supplied(&self, marks: &[bool; 2400]) -> Slots
-        requires { (passing (λ k. get_or marks.now k false) ≤ self.now.places) × (((k : ℕ) → k < 2400 → has_slot self.now k ≡ true → slice_index_or marks.now k false ≡ true)) }
-        ensures { Supplied self.now (λ k. get_or marks.now k false) result }
+        requires { (passing (λ k. slice_index_or marks.now k false) ≤ self.now.places) × ((k : ℕ) → k < 2400 → has_slot self.now k ≡ true → slice_index_or marks.now k false ≡ true) }
+        ensures { Supplied self.now (λ k. slice_index_or marks.now k false) result }
     {
         let taken = self.taken();
         let mut table = self.table;
@@ -105,7 +105,7 @@ impl Slots {
 
 /// The first slot from `start` on that is not taken.
 fn free_from(taken: &[bool; 4096], start: u16, places: u16) -> u16
-    requires { (places ≤ 4096) × ((((s : ℕ) → start ≤ s → s < places → slice_index_or taken.now s false ≡ true) → ⊥)) }
+    requires { (places ≤ 4096) × (((s : ℕ) → start ≤ s → s < places → slice_index_or taken.now s false ≡ true) → ⊥) }
     ensures from { start ≤ result }
     ensures there { result < places }
     ensures free { slice_index_or taken.now result false ≡ false }

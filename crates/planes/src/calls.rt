@@ -1,5 +1,5 @@
 //! The calls of planes. Beside what every bitmap promises, each settles every word: the bits of pixels by the picture, all others as before.
-ghost use Rattle.std.specs.Prelude.{◌≡◌, vec_len};
+ghost use Rattle.std.specs.Prelude.{vec_len};
 ghost use Rattle.planes.specs.Means.{picture_of, PlanesKept, words_of};
 ghost use Rattle.planes.specs.Store.{laid_sound};
 ghost use Rattle.planes.specs.Keep.{planes_same, planes_joins};

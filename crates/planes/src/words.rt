@@ -1,5 +1,5 @@
 //! Single pixels in a list of words.
-ghost use Rattle.std.specs.Prelude.{◌≡◌, ℕ, ◌*◌, ◌^◌, ◌<◌, ◌≤◌, length};
+ghost use Rattle.std.specs.Prelude.{◌≡◌, ◌*◌, ◌^◌, ◌<◌, length};
 ghost use Rattle.raster.specs.Rules.{combined};
 ghost use Rattle.raster.specs.Picture.{with_pixel};
 ghost use Rattle.raster.specs.Blits.{inked};

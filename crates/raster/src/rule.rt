@@ -1,5 +1,5 @@
 //! The sixteen rules, and how a rule combines two pixels.
-ghost use Rattle.std.specs.Prelude.{◌≡◌, ℕ, ◌^◌, ◌<◌, ◌≤◌, min, MatchOption};
+ghost use Rattle.std.specs.Prelude.{◌≡◌, ◌<◌, ◌≤◌, min, MatchOption};
 ghost use Rattle.raster.specs.Rules.{result as rule_result, combined};
 
 /// The result bits of each rule for the pairs (source, destination) = (0,0), (0,1), (1,0) and (1,1).

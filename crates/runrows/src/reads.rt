@@ -1,5 +1,5 @@
 //! How the pixels of a row are read, whatever its entries hold.
-ghost use Rattle.std.specs.Prelude.{◌≡◌, ℕ, ◌+◌, ◌^◌, ◌<◌, ◌≤◌, length, slice_index};
+ghost use Rattle.std.specs.Prelude.{◌≡◌, ℕ, ◌<◌, ◌≤◌, length, slice_index};
 ghost use Rattle.runrows.specs.Runs.{run_at};
 ghost use Rattle.runrows.specs.Reading.{Refilled, Onward};
 
