@@ -165,7 +165,7 @@ module _ (s m : Picture) (p : Plan) (t : Slots) (x y w : ℕ) (fit : Fitting s m
 taken_small : (depth : ℕ) (m : Picture) (r : Backing) → taken depth m r < 2 ^ depth
 taken_small depth m Bare = pow_pos depth
 taken_small depth m Alone = pow_pos depth
-taken_small depth m (Kept a b) = mod-lt (m.at a b) (pow_pos depth)
+taken_small depth m (Kept a b) = mod-lt _ (pow_pos depth)
 
 some_taken : (b : Bool) (v n : ℕ) → Some v ≡ cond b (Some n) None → (b ≡ true) × (v ≡ n)
 some_taken true v n e = (refl, cc)
