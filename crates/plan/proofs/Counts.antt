@@ -56,7 +56,7 @@ one_most : (a b : Bool) → (a ≡ true → b ≡ true) → cond a 1 0 ≤ cond 
 one_most true b h = rw (h refl) (omega arith)
 one_most false b h = omega arith
 
-counted_fewer : (f g : ℕ → Bool) (n : ℕ) → ((k : ℕ) → k < n → f k ≡ true → g k ≡ true) → counted f n ≤ counted g n
+pub counted_fewer : (f g : ℕ → Bool) (n : ℕ) → ((k : ℕ) → k < n → f k ≡ true → g k ≡ true) → counted f n ≤ counted g n
 unfolding counted
 counted_fewer f g zero h = omega arith
 counted_fewer f g (suc n) h = omega (arith, counted_fewer f g n (λ k l. h k (omega arith)), one_most (f n) (g n) (h n (omega arith)))

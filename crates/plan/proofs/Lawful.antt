@@ -14,7 +14,7 @@ use Rattle.plan.proofs.Patches.{hidden_closed, hidden_at, no_area}
 use Rattle.plan.proofs.Regroup.{tally, tally_none, tally_alike, tally_clients, by_number, passing_parts, layer_parts}
 
 -- a patch number at column i and row j lies outside a frame
-abbrev Outside : Frame → (i j : ℕ) → Type 0
+abbrev pub Outside : Frame → (i j : ℕ) → Type 0
 Outside f i j = (f.w ≤ 16 * i) ⊎ (f.h ≤ 16 * j)
 
 -- no patch outside a layer passes a test
@@ -41,7 +41,7 @@ regrouped p test other b agree =
 abbrev hidden_of : Plan → (c i j : ℕ) → Bool
 hidden_of p c i j = hidden_in p.screen (layers_in p) c i j
 
-hidden_bounded : (p : Plan) → Bounded p (hidden_of p)
+pub hidden_bounded : (p : Plan) → Bounded p (hidden_of p)
 hidden_bounded p = record {
   closed = λ c i j h. hidden_closed p.screen p.frames c i j (listed p) h;
   outside = λ c i j h o.

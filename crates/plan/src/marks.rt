@@ -18,7 +18,7 @@ impl Plan {
     }
 
     /// Whether a patch is one of the client's layer.
-    fn has_patch(&self, c: u8, patch: u16) -> bool
+    pub fn has_patch(&self, c: u8, patch: u16) -> bool
         ensures { result ≡ patch_of self.now c patch }
     {
         if !self.is_open(c) || patch / 300 != c as u16 {

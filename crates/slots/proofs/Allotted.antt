@@ -8,11 +8,11 @@ use Rattle.plan.specs.Plans.{listed, frame_in, hidden_patch, patch_of, needs}
 use Rattle.slots.specs.declared.slots.Slots.{Slots}
 use Rattle.slots.specs.Allots.{Retained, Supplied}
 use Rattle.slots.specs.Changes.{Concerns}
-use Rattle.slots.specs.Entries.{passing}
+use Rattle.plan.specs.Allots.{passing}
 use Rattle.slots.specs.Tables.{has_slot, Fits}
 use Rattle.slots.specs.Walks.{Short, InLayer, Clear, AdjustedBut, AdjustsBut}
 use Rattle.slots.proofs.Changes.{same_hidden, same_needs}
-use Rattle.slots.proofs.Counts.{counted_alike, counted_fewer}
+use Rattle.plan.proofs.Counts.{counted_alike, counted_fewer}
 
 -- as many patches have a slot as there are slots, or fewer
 pub few_have : (t : Slots) → passing (has_slot t) ≤ t.places

@@ -14,7 +14,7 @@ use Rattle.plan.proofs.Patches.{hidden_at}
 use Rattle.slots.specs.Blocks.{patch_x, patch_y, InFrame, patch_met}
 use Rattle.slots.specs.Changes.{Concerns}
 use Rattle.slots.specs.Walks.{InLayer, Clear}
-use Rattle.slots.proofs.Lawful.{Outside, hidden_bounded}
+use Rattle.plan.proofs.Lawful.{Outside, hidden_bounded}
 
 -- ── Layers that meet an area, without one that does not ──
 

@@ -3,28 +3,15 @@ use Rattle.std.proofs.Common.{◌≡◌, ℕ, zero, suc, ◌+◌, ◌<◌, ◌�
 use Rattle.std.proofs.lemmas.Bool.{cases_lt}
 use Rattle.raster.specs.Rules.{total}
 use Rattle.raster.proofs.Digits.{total_alike}
-use Rattle.slots.specs.Entries.{counted}
+use Rattle.plan.specs.Allots.{counted}
 
-pub counted_alike : (f g : ℕ → Bool) (n : ℕ) → ((k : ℕ) → k < n → f k ≡ g k) → counted f n ≡ counted g n
-unfolding counted
-counted_alike f g n e = total_alike _ _ n (λ k l. ap (λ b. cond b 1 0) (e k l))
-
+-- none pass a test that fails below n
 pub counted_none : (f : ℕ → Bool) (n : ℕ) → ((k : ℕ) → k < n → f k ≡ false) → counted f n ≡ 0
 unfolding counted
 counted_none f zero e = refl
 counted_none f (suc n) e =
     let here : ◌≡◌ {A = ℕ} (cond (f n) 1 0) 0 = ap (λ b. cond b 1 0) (e n (omega arith)) in
     omega (arith, counted_none f n (λ k l. e k (omega arith)))
-
--- no more pass a test that is stricter
-one_most : (a b : Bool) → (a ≡ true → b ≡ true) → cond a 1 0 ≤ cond b 1 0
-one_most true b h = rw (h refl) (omega arith)
-one_most false b h = omega arith
-
-pub counted_fewer : (f g : ℕ → Bool) (n : ℕ) → ((k : ℕ) → k < n → f k ≡ true → g k ≡ true) → counted f n ≤ counted g n
-unfolding counted
-counted_fewer f g zero h = omega arith
-counted_fewer f g (suc n) h = omega (arith, counted_fewer f g n (λ k l. h k (omega arith)), one_most (f n) (g n) (h n (omega arith)))
 
 -- one more passes a test that differs at one patch alone
 pub counted_one : (f g : ℕ → Bool) (n j : ℕ) → j < n → f j ≡ false → g j ≡ true → ((k : ℕ) → k < n → (k ≡ j → ⊥) → f k ≡ g k) → counted g n ≡ counted f n + 1
@@ -41,18 +28,4 @@ counted_one f g (suc n) j l ef eg h =
     let b : ◌≡◌ {A = ℕ} (cond (g n) 1 0) 1 = ap (λ b. cond b 1 0) (ap g (sym same) ∙ eg) in
     let below : total (λ k. cond (f k) 1 0) n ≡ total (λ k. cond (g k) 1 0) n = total_alike _ _ n (λ k l. ap (λ b. cond b 1 0) (h k (omega arith) (λ e. omega arith))) in
     omega arith)
-    (cases_lt j n)
-
--- more pass a test that passes all that another passes, and one that it does not
-pub counted_less : (f g : ℕ → Bool) (n j : ℕ) → j < n → f j ≡ false → g j ≡ true → ((k : ℕ) → k < n → f k ≡ true → g k ≡ true) → counted f n < counted g n
-unfolding counted
-counted_less f g zero j l ef eg h = absurd (omega arith)
-counted_less f g (suc n) j l ef eg h =
-    ⊎_elim
-    (λ (s : j < n). omega (arith, counted_less f g n j s ef eg (λ k l. h k (omega arith)), one_most (f n) (g n) (h n (omega arith))))
-    (λ (s : n ≤ j).
-    let same : j ≡ n = omega arith in
-    let a : ◌≡◌ {A = ℕ} (cond (f n) 1 0) 0 = ap (λ b. cond b 1 0) (ap f (sym same) ∙ ef) in
-    let b : ◌≡◌ {A = ℕ} (cond (g n) 1 0) 1 = ap (λ b. cond b 1 0) (ap g (sym same) ∙ eg) in
-    omega (arith, counted_fewer f g n (λ k l. h k (omega arith))))
     (cases_lt j n)

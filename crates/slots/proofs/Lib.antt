@@ -2,8 +2,6 @@ pub mod Counts
 pub mod Spares
 pub mod Blocks
 pub mod Walks
-pub mod Regroup
-pub mod Lawful
 pub mod Changes
 pub mod Concerned
 pub mod Allotted

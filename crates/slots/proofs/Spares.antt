@@ -3,7 +3,9 @@ use Rattle.std.proofs.Common.{◌≡◌, ℕ, ◌+◌, ◌-◌, ◌<◌, true, f
 use Rattle.std.proofs.lemmas.List.{get_or-set_same, get_or-set_other}
 use Rattle.std.proofs.lemmas.Bool.{cases_eq, ltb-true, lt-ltb, le-ltb}
 use Rattle.slots.specs.declared.slots.Slots.{Slots}
-use Rattle.slots.specs.Entries.{passing, Clash, Spare, Double, Reused}
+use Rattle.plan.specs.Frames.{Clash}
+use Rattle.plan.specs.Allots.{passing}
+use Rattle.slots.specs.Entries.{Spare, Double, Reused}
 use Rattle.slots.specs.Tables.{has_slot}
 use Rattle.slots.proofs.Counts.{counted_one}
 

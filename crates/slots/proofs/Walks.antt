@@ -10,7 +10,7 @@ use Rattle.slots.specs.declared.slots.Slots.{Slots}
 use Rattle.slots.specs.Blocks.{InFrame, patch_met}
 use Rattle.slots.specs.Tables.{has_slot}
 use Rattle.slots.specs.Walks.{Adjusted, Short, Adjusts, InLayer, Clear, AdjustedBut, AdjustsBut}
-use Rattle.slots.proofs.Counts.{counted_fewer, counted_less}
+use Rattle.plan.proofs.Counts.{counted_fewer, counted_less}
 
 module _ (test : ℕ → Bool) where
   -- nothing was done

@@ -1,7 +1,7 @@
 -- Tables of slots, changed for some patches.
 use Rattle.std.specs.Prelude.{◌≡◌, ℕ, ◌<◌, ◌≤◌, Bool, true, ◌&&◌, Some, None, Option, ◌≢◌}
 use Rattle.slots.specs.declared.slots.Slots.{Slots}
-use Rattle.slots.specs.Entries.{passing}
+use Rattle.plan.specs.Allots.{passing}
 use Rattle.slots.specs.Tables.{slot_of, has_slot}
 
 -- All patches but one have the slots that they had.

@@ -4,4 +4,3 @@ pub mod Allots
 pub mod Blocks
 pub mod Walks
 pub mod Changes
-pub mod Laws

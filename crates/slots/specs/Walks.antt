@@ -7,7 +7,7 @@ use Rattle.plan.specs.Plans.{listed, frame_in, needs}
 use Rattle.slots.specs.declared.change.Change.{Change}
 use Rattle.slots.specs.declared.slots.Slots.{Slots}
 use Rattle.slots.specs.Blocks.{InFrame, patch_met}
-use Rattle.slots.specs.Entries.{passing}
+use Rattle.plan.specs.Allots.{passing}
 use Rattle.slots.specs.Tables.{slot_of, has_slot}
 
 -- The patches of a region have a slot in r exactly if they pass a test, and the others if they have one in t; a patch that has one in both has

@@ -1,6 +1,6 @@
 //! A change of the arrangement, and the patches that need a slot for its time.
 ghost use Rattle.std.specs.Prelude.{◌≡◌, ◌<◌};
-ghost use Rattle.plan.specs.Plans.{patch_of, needs};
+ghost use Rattle.plan.specs.Plans.{needs};
 
 use plan::Plan;
 
@@ -12,17 +12,6 @@ pub(crate) struct Change {
     pub moved: u8,
 }
 
-/// Whether a patch is one of a client's layer.
-fn has_patch(plan: &Plan, c: u8, patch: u16) -> bool
-    ensures { result ≡ patch_of plan.now c patch }
-{
-    if !plan.is_open(c) || patch / 300 != c as u16 {
-        return false;
-    }
-    let frame = plan.frame(c);
-    16 * (patch % 300 % 20) < frame.w && 16 * (patch % 300 / 20) < frame.h
-}
-
 impl Change {
     /// Whether a patch needs a slot while the change lasts.
     pub(crate) fn needs(&self, patch: u16) -> bool
@@ -31,6 +20,6 @@ impl Change {
     {
         self.before.hides(patch)
             || self.after.hides(patch)
-            || has_patch(&self.after, self.moved, patch)
+            || self.after.has_patch(self.moved, patch)
     }
 }

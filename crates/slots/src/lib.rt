@@ -3,12 +3,10 @@
 
 mod block;
 mod change;
-mod laws;
 mod single;
 mod slots;
 mod start;
 mod tables;
 mod walk;
 
-pub use laws::patch_laws;
 pub use slots::Slots;

@@ -1,6 +1,8 @@
 //! The type of tables of slots.
 ghost use Rattle.std.specs.Prelude.{◌≡◌, ℕ, ◌<◌, ◌≤◌, nat_lt, slice_index};
-ghost use Rattle.slots.specs.Entries.{passing, Clash, Spare, Double, Reused};
+ghost use Rattle.plan.specs.Frames.{Clash};
+ghost use Rattle.plan.specs.Allots.{passing};
+ghost use Rattle.slots.specs.Entries.{Spare, Double, Reused};
 
 /// Which of `places` slots each patch has: client c's patch in column i and row j has the entry 300 * c + 20 * j + i of the table.
 /// An entry of `places` or more says that the patch has none. `used` slots are in use; the others stand in `spare`, from its

@@ -1,6 +1,6 @@
 //! The table without slots, and what a table tells.
 ghost use Rattle.std.specs.Prelude.{◌≡◌, ℕ, ◌<◌, min, false, ◌&&◌, if◌then◌else◌, Some, None, nat_lt, slice_index};
-ghost use Rattle.slots.specs.Entries.{passing};
+ghost use Rattle.plan.specs.Allots.{passing};
 ghost use Rattle.slots.specs.Tables.{slot_of, has_slot};
 
 use crate::slots::Slots;
