@@ -1,4 +1,5 @@
 -- What drawing on a pane leaves, taken together: nothing drawn, and one thing drawn after another.
+-- Lemmas: proved, not to be believed. They stand here since the laws in the impl of Bitmap cite them.
 use Rattle.std.specs.Prelude.{◌≡◌, ℤ, refl}
 use Rattle.std.proofs.Common.{sym, ap, ◌∙◌, subst}
 use Rattle.std.proofs.lemmas.Bool.{or_left}

@@ -1,4 +1,5 @@
 -- A pane is a bitmap's picture.
+-- Lemmas: proved, not to be believed. They stand here since the laws in the impl of Bitmap cite them.
 use Rattle.std.specs.Prelude.{◌≡◌, ℕ, ◌^◌, ◌<◌, ◌≤◌, true, false, ◌&&◌, ◌⊎◌, nat_lt, refl}
 use Rattle.std.proofs.Common.{sym, subst, ⊎_elim, arith, mod-lt}
 use Rattle.std.proofs.lemmas.Nat.{pow_pos}

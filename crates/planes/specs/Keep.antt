@@ -1,4 +1,5 @@
 -- What planes keep, they keep from call to call.
+-- Lemmas: proved, not to be believed. They stand here since the laws in the impl of Bitmap cite them.
 use Rattle.std.specs.Prelude.{refl}
 use Rattle.std.proofs.Common.{subst, ◌∙◌}
 use Rattle.raster.specs.declared.size.Size.{Size}

@@ -1,4 +1,5 @@
 -- Planes: where the bits of pixels stand, and what a store changes.
+-- Lemmas: proved, not to be believed. They stand here since the laws in the impl of Bitmap cite them.
 use Rattle.std.specs.Prelude.{◌≡◌, ℕ, zero, suc, ◌+◌, ◌-◌, ◌*◌, ◌/◌, ◌%◌, ◌^◌, ◌<◌, ◌≤◌, Bool, true, false, cond, ◌&&◌, ◌≢◌, List, length, ◌==◌, bit_and, bit_xor, nat_lt, slice_index, slice_set}
 use Rattle.std.proofs.Math.Path.{refl, ap}
 use Rattle.std.proofs.Common.{sym, ◌∙◌, add_comm, add-mul, mul_comm, add-zero}

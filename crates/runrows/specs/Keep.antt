@@ -1,4 +1,5 @@
 -- What run rows keep from call to call, and a list of entries that was lent as a slice and changed.
+-- Lemmas: proved, not to be believed. They stand here since the laws in the impl of Bitmap cite them.
 use Rattle.std.specs.Prelude.{◌≡◌, ℕ, Bool, false, ◌||◌, List, length, vec_items, vec_len, Vec, refl}
 use Rattle.std.proofs.Common.{sym, ap, subst, ◌∙◌}
 use Rattle.std.specs.Vec.{with_items}

@@ -1,4 +1,5 @@
 -- Rows in a list of entries: where they lie, what a written row changes, and what is kept from call to call.
+-- Lemmas: proved, not to be believed. They stand here since the laws in the impl of Bitmap cite them.
 use Rattle.std.specs.Prelude.{◌≡◌, ℕ, suc, ◌+◌, ◌-◌, ◌*◌, ◌<◌, ◌≤◌, Bool, true, false, cond, ◌&&◌, ◌||◌, List, length, take, drop, ◌==◌, ◌≢◌, nat_eq, nat_lt, slice_index, refl}
 use Rattle.std.proofs.Common.{sym, ap, subst, ◌∙◌, inl, inr, ⊎_elim, suc-mul, arith, rules}
 use borrow.Rule.Slice.PartMut.{put_mid}
