@@ -14,9 +14,11 @@ impl<S: Bitmap, T: Bitmap> Bitmap for Pane<S, T> {
 
     ghost sound = { λ p. pane_sound (S.Bitmap.picture p.desk.screen) (T.Bitmap.picture p.desk.store) (S.Bitmap.sound p.desk.screen) p.desk.book p.client };
 
-    ghost same = { pane_same (record { picture = S.Bitmap.picture; keeps = S.Bitmap.keeps }) (record { picture = T.Bitmap.picture; keeps = T.Bitmap.keeps }) S.Bitmap.same T.Bitmap.same };
+    ghost same = { pane_same (record { picture = S.Bitmap.picture; keeps = S.Bitmap.keeps })
+        (record { picture = T.Bitmap.picture; keeps = T.Bitmap.keeps }) S.Bitmap.same T.Bitmap.same };
 
-    ghost joins = { pane_joins (record { picture = S.Bitmap.picture; keeps = S.Bitmap.keeps }) (record { picture = T.Bitmap.picture; keeps = T.Bitmap.keeps }) S.Bitmap.joins T.Bitmap.joins };
+    ghost joins = { pane_joins (record { picture = S.Bitmap.picture; keeps = S.Bitmap.keeps })
+        (record { picture = T.Bitmap.picture; keeps = T.Bitmap.keeps }) S.Bitmap.joins T.Bitmap.joins };
 
     fn size(&self) -> Size {
         self.desk.pane_size(self.client)
