@@ -1,11 +1,13 @@
 -- When a call of a bitmap is refused, and what it answers and leaves then and otherwise.
-use Rattle.std.proofs.Common.{◌≡◌, ℕ, ◌^◌, ◌<◌, true, false, ltb, leb, ℤ, pos, nat_abs, Some, None, Ok, Err, Option, Result, sym, refl, ◌∙◌, ⊎_elim, arith}
+use Rattle.std.specs.Option.{ok_or, option_zip}
+use Rattle.std.proofs.Common.{◌≡◌, Bool, not, ◌&&◌, [], ◌∷◌, if◌then◌else◌, ℕ, ◌^◌, ◌<◌, true, false, ltb, leb, ℤ, pos, nat_abs, Some, None, Ok, Err, Option, Result, sym, refl, ◌∙◌, ⊎_elim, arith}
 use Rattle.std.proofs.lemmas.Int.{ints}
 use Rattle.std.proofs.lemmas.Bool.{cases_Bool}
 use Rattle.std.proofs.lemmas.Bool.Decides.{nat_tests}
 use Rattle.raster.specs.Picture.{Picture, sizes}
-use Rattle.raster.specs.Blt.{Transfer, inside}
-use Rattle.raster.specs.Calls.{BitmapCall, read_at, write_at, fill_with, scroll_by, bitmap_fault, bitmap_value, bitmap_change, bitmap_answer, bitmap_after, row_concerned, any_below, concerns, fault, unless}
+use Rattle.raster.specs.Blt.{holds, inside}
+use Rattle.raster.specs.declared.transfer.Transfer.{Transfer}
+use Rattle.raster.specs.Calls.{BitmapCall, first_fault, refuse_if, read_at, write_at, fill_with, scroll_by, bitmap_fault, bitmap_value, bitmap_change, bitmap_answer, bitmap_after, row_concerned, any_below, concerns, fault, unless}
 use Rattle.raster.specs.declared.refusal.Refusal.TheVariants.{RuleAboveFifteen, ValueTooLarge, OutsideBitmap}
 use Rattle.raster.specs.declared.fault.Fault.{Fault}
 use Rattle.raster.specs.declared.size.Size.{Size}
@@ -50,6 +52,22 @@ module _ (s : Size) (t : Transfer) where
   pub scroll_accepted : ltb 15 t.rule ≡ false → bitmap_fault s (scroll_by t) ≡ None
   unfolding bitmap_fault
   scroll_accepted e = rw e refl
+
+-- the place of a read: both coordinates are below the bitmap's size, or the fault says so
+
+placed_by : (across down : Bool) (x y : ℕ) (f : Fault)
+    → ok_or (option_zip (if across then Some x else None) (if down then Some y else None)) f
+    ≡ unless (first_fault (refuse_if (not (across && down)) f ∷ [])) (x, y)
+placed_by true true x y f = refl
+placed_by true false x y f = refl
+placed_by false true x y f = refl
+placed_by false false x y f = refl
+
+pub placed : (s : Size) (x y : ℤ)
+    → ok_or (option_zip (if holds (pos 0) s.width x then Some (nat_abs x) else None) (if holds (pos 0) s.height y then Some (nat_abs y) else None)) (fault OutsideBitmap x y)
+    ≡ unless (bitmap_fault s (read_at x y)) (nat_abs x, nat_abs y)
+unfolding bitmap_fault
+placed s x y = placed_by (holds (pos 0) s.width x) (holds (pos 0) s.height y) (nat_abs x) (nat_abs y) (fault OutsideBitmap x y)
 
 -- a fault makes the answer, and leaves the picture
 

@@ -4,7 +4,8 @@ use Rattle.std.proofs.lemmas.Bool.Decides.{nat_tests}
 use Rattle.std.proofs.lemmas.Bool.{and_parts, cases_Bool}
 use Rattle.raster.specs.Rules.{total, combined}
 use Rattle.raster.specs.Picture.{Picture, sizes}
-use Rattle.raster.specs.Blt.{Transfer, Source, concerned, count, blt, behind}
+use Rattle.raster.specs.Blt.{Source, concerned, count, blt, behind}
+use Rattle.raster.specs.declared.transfer.Transfer.{Transfer}
 use Rattle.raster.specs.Calls.{any_below}
 use Rattle.raster.specs.Blits.{between, spans, opposite, inked, performed}
 use Rattle.raster.specs.declared.blit.Blit.{Blit}

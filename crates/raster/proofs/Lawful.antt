@@ -5,7 +5,8 @@ use Rattle.std.proofs.lemmas.Bool.{cases_Bool, cond-false, cond_both, and_parts,
 use Rattle.std.proofs.lemmas.Bool.Decides.{nat_tests}
 use Rattle.raster.specs.Rules.{bit, result, combined}
 use Rattle.raster.specs.Picture.{Picture, sizes, Sound, painted}
-use Rattle.raster.specs.Blt.{Transfer, Source, transfer, holds, in_rectangle, inside, behind, from_picture, everywhere, concerned, count, blt}
+use Rattle.raster.specs.Blt.{Source, transfer, holds, in_rectangle, inside, behind, from_picture, everywhere, concerned, count, blt}
+use Rattle.raster.specs.declared.transfer.Transfer.{Transfer}
 use Rattle.raster.specs.Calls.{BitmapCall, read_at, write_at, fill_with, scroll_by, bitmap_fault, bitmap_change, bitmap_after, concerns, fill_transfer, if_refused, unless}
 use Rattle.raster.specs.Laws.{HasEverywhere, BitmapLaws}
 use Rattle.raster.specs.declared.fault.Fault.{Fault}

@@ -3,7 +3,8 @@ use Rattle.std.proofs.Common.{◌≡◌, ℕ, ◌^◌, ◌≤◌, Bool, true, fa
 use Rattle.std.proofs.lemmas.Int.{ints}
 use Rattle.std.proofs.lemmas.Bool.{le-ltb}
 use Rattle.raster.specs.Picture.{Picture, sizes}
-use Rattle.raster.specs.Blt.{Transfer, holds, behind, concerned, everywhere, from_picture}
+use Rattle.raster.specs.Blt.{holds, behind, concerned, everywhere, from_picture}
+use Rattle.raster.specs.declared.transfer.Transfer.{Transfer}
 use Rattle.raster.specs.Calls.{fill_with, scroll_by, fill_transfer}
 use Rattle.raster.specs.Blits.{spans, opposite, Performs}
 use Rattle.raster.specs.Clip.{hits, Clipped}

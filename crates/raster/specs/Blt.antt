@@ -3,6 +3,7 @@ use Rattle.std.specs.Prelude.{ℕ, Bool, true, cond, ◌&&◌, ℤ, pos, ◌+ℤ
 use Rattle.raster.specs.Rules.{total, combined}
 use Rattle.raster.specs.Picture.{Picture, sizes, painted}
 use Rattle.raster.specs.declared.size.Size.{Size}
+use Rattle.raster.specs.declared.transfer.Transfer.{Transfer}
 
 -- z is one of the n numbers from `from` on. The sum counts in full.
 abbrev pub holds : (from : ℤ) (n : ℕ) (z : ℤ) → Bool
@@ -29,17 +30,7 @@ from_picture p = record { has = inside (sizes p); at = λ x y. p.at (unsigned_ab
 abbrev pub everywhere : ℕ → Source
 everywhere v = record { has = λ _ _. true; at = λ _ _. v }
 
--- What BitBlt is told besides its source and destination: the rule, the source corner (sx, sy),
--- the destination corner (dx, dy), and the size.
-pub record Transfer : Type 0 where
-  pub rule : ℕ
-  pub sx : ℤ
-  pub sy : ℤ
-  pub dx : ℤ
-  pub dy : ℤ
-  pub w : ℕ
-  pub h : ℕ
-
+-- What BitBlt is told besides its source and destination, field by field.
 abbrev pub transfer : (rule : ℕ) (sx sy dx dy : ℤ) (w h : ℕ) → Transfer
 transfer rule sx sy dx dy w h = record { rule = rule; sx = sx; sy = sy; dx = dx; dy = dy; w = w; h = h }
 

@@ -1,7 +1,8 @@
 -- The calls of a bitmap: what each answers, and the picture that it leaves.
 use Rattle.std.specs.Prelude.{◌≡◌, ℕ, zero, suc, ◌^◌, Bool, false, cond, not, ◌&&◌, ◌||◌, List, [], ◌∷◌, ℤ, pos, Some, None, Ok, Err, Option, Result, ◌==◌, nat_le, nat_lt, unsigned_abs}
 use Rattle.raster.specs.Picture.{Picture, sizes, with_pixel}
-use Rattle.raster.specs.Blt.{Transfer, transfer, from_picture, everywhere, inside, concerned, count, blt}
+use Rattle.raster.specs.Blt.{transfer, from_picture, everywhere, inside, concerned, count, blt}
+use Rattle.raster.specs.declared.transfer.Transfer.{Transfer}
 use Rattle.raster.specs.declared.refusal.Refusal.{Refusal}
 use Rattle.raster.specs.declared.refusal.Refusal.TheVariants.{RuleAboveFifteen, ValueTooLarge, OutsideBitmap}
 use Rattle.raster.specs.declared.fault.Fault.{Fault}

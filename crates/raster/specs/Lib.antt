@@ -6,3 +6,4 @@ pub mod Calls
 pub mod Blits
 pub mod Clip
 pub mod Laws
+pub mod Rows

@@ -1,11 +1,12 @@
 //! What every kind of bitmap offers.
 ghost use Rattle.std.specs.Prelude.{◌≡◌};
 ghost use Rattle.raster.specs.Picture.{Picture, Sound, sizes};
-ghost use Rattle.raster.specs.Blt.{transfer};
 ghost use Rattle.raster.specs.Calls.{read_at, write_at, fill_with, scroll_by, bitmap_answer, bitmap_after, Unaltered};
 
 use crate::fault::Fault;
+use crate::rectangle::Rectangle;
 use crate::size::Size;
+use crate::transfer::Transfer;
 
 /// The five calls of a bitmap. A refused call leaves the very same value.
 pub trait Bitmap {
@@ -30,26 +31,17 @@ pub trait Bitmap {
         ensures rest { keeps self.old self.new }
         ensures refused { Unaltered result self.old self.new };
 
-    /// BitBlt from a source that has the value `v` everywhere; the count of pixels concerned.
-    fn fill(&mut self, rule: u8, v: u8, x: i16, y: i16, w: u16, h: u16) -> Result<u32, Fault>
-        ensures answer { result ≡ bitmap_answer (picture self.old) (fill_with rule v x y w h) }
-        ensures after { picture self.new ≡ bitmap_after (picture self.old) (fill_with rule v x y w h) }
+    /// BitBlt onto a rectangle from a source that has the value `v` everywhere; the count of pixels concerned.
+    fn fill(&mut self, rule: u8, v: u8, area: Rectangle) -> Result<u32, Fault>
+        ensures answer { result ≡ bitmap_answer (picture self.old) (fill_with rule v area.x area.y area.w area.h) }
+        ensures after { picture self.new ≡ bitmap_after (picture self.old) (fill_with rule v area.x area.y area.w area.h) }
         ensures rest { keeps self.old self.new }
         ensures refused { Unaltered result self.old self.new };
 
     /// BitBlt within the bitmap; the count of pixels concerned.
-    fn scroll(
-        &mut self,
-        rule: u8,
-        sx: i16,
-        sy: i16,
-        dx: i16,
-        dy: i16,
-        w: u16,
-        h: u16,
-    ) -> Result<u32, Fault>
-        ensures answer { result ≡ bitmap_answer (picture self.old) (scroll_by (transfer rule sx sy dx dy w h)) }
-        ensures after { picture self.new ≡ bitmap_after (picture self.old) (scroll_by (transfer rule sx sy dx dy w h)) }
+    fn scroll(&mut self, transfer: Transfer) -> Result<u32, Fault>
+        ensures answer { result ≡ bitmap_answer (picture self.old) (scroll_by transfer) }
+        ensures after { picture self.new ≡ bitmap_after (picture self.old) (scroll_by transfer) }
         ensures rest { keeps self.old self.new }
         ensures refused { Unaltered result self.old self.new };
 

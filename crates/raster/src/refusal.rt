@@ -8,33 +8,33 @@ use std::fmt;
 #[derive(Clone, Copy, PartialEq, Eq, Debug)]
 pub enum Refusal {
     /// A record's length is below 2, or bytes of it are missing.
-    BytesMissing,
+    BytesMissing = 1,
     /// A record's kind is not listed.
-    UnknownKind,
+    UnknownKind = 2,
     /// A record's length, or the size of a stamp, does not fit its kind.
-    WrongLength,
+    WrongLength = 3,
     /// The client is above 7.
-    ClientAboveSeven,
+    ClientAboveSeven = 4,
     /// The client is the host of an inner desk, which alone draws on its layer.
-    Host,
+    Host = 5,
     /// The client has no open layer.
-    NotOpen,
+    NotOpen = 6,
     /// The client has an open layer already.
-    AlreadyOpen,
+    AlreadyOpen = 7,
     /// A layer would be wider or higher than is allowed, or empty.
-    OpenBeyondSize,
+    OpenBeyondSize = 8,
     /// The rule is above 15.
-    RuleAboveFifteen,
+    RuleAboveFifteen = 9,
     /// The value is 2^depth or more, or a source is deeper than the desk.
-    ValueTooLarge,
+    ValueTooLarge = 10,
     /// The pixel or place is not in the bitmap.
-    OutsideBitmap,
+    OutsideBitmap = 11,
     /// The store has too few slots.
-    TooFewSlots,
+    TooFewSlots = 12,
     /// The buffer is too short for a row.
-    BufferTooShort,
+    BufferTooShort = 13,
     /// All rows are printed.
-    AllRowsPrinted,
+    AllRowsPrinted = 14,
 }
 
 impl Refusal {
@@ -42,22 +42,7 @@ impl Refusal {
     pub fn number(self) -> u8
         ensures { result ≡ number self }
     {
-        match self {
-            Refusal::BytesMissing => 1,
-            Refusal::UnknownKind => 2,
-            Refusal::WrongLength => 3,
-            Refusal::ClientAboveSeven => 4,
-            Refusal::Host => 5,
-            Refusal::NotOpen => 6,
-            Refusal::AlreadyOpen => 7,
-            Refusal::OpenBeyondSize => 8,
-            Refusal::RuleAboveFifteen => 9,
-            Refusal::ValueTooLarge => 10,
-            Refusal::OutsideBitmap => 11,
-            Refusal::TooFewSlots => 12,
-            Refusal::BufferTooShort => 13,
-            Refusal::AllRowsPrinted => 14,
-        }
+        self as u8
     }
 }
 

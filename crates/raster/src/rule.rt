@@ -1,6 +1,9 @@
 //! The sixteen rules, and how a rule combines two pixels.
-ghost use Rattle.std.specs.Prelude.{◌≡◌, ◌<◌, ◌≤◌, min, MatchOption};
+ghost use Rattle.std.specs.Prelude.{◌≡◌, ◌<◌, ◌≤◌, min, MatchResult};
 ghost use Rattle.raster.specs.Rules.{result as rule_result, combined};
+ghost use Rattle.raster.specs.declared.refusal.Refusal.TheVariants.{RuleAboveFifteen};
+
+use crate::refusal::Refusal;
 
 /// The result bits of each rule for the pairs (source, destination) = (0,0), (0,1), (1,0) and (1,1).
 const RESULTS: [[u8; 4]; 16] = [
@@ -22,6 +25,9 @@ const RESULTS: [[u8; 4]; 16] = [
     [1, 1, 1, 1],
 ];
 
+/// The number of the rule whose result is the source.
+pub const SOURCE: u8 = 3;
+
 /// One of the sixteen rules.
 #[derive(Clone, Copy)]
 pub struct Rule {
@@ -29,21 +35,26 @@ pub struct Rule {
     ghost listed: { number < 16 },
 }
 
-impl Rule {
-    /// The rule of a number, if there is one.
-    pub fn new(number: u8) -> Option<Rule>
-        ensures { MatchOption result (16 ≤ number) (λ x. x.number ≡ number) }
-    {
+/// The rule of a number; above 15 there is none.
+impl TryFrom<u8> for Rule {
+    type Error = Refusal;
+
+    ghost try_from_gives = { λ n r. MatchResult r (λ x. (n ≤ 15) × (x.number ≡ n)) (λ why. (15 < n) × (why ≡ RuleAboveFifteen)) };
+
+    fn try_from(number: u8) -> Result<Rule, Refusal> {
         if number < 16 {
-            Some(Rule { number })
+            Ok(Rule { number })
         } else {
-            None
+            Err(Refusal::RuleAboveFifteen)
         }
     }
+}
 
+impl Rule {
     /// The result bit at a source bit and a destination bit.
     fn result_bit(self, s: u8, d: u8) -> u8
-        requires { (s < 2) × (d < 2) }
+        requires source { s < 2 }
+        requires destination { d < 2 }
         ensures { result ≡ rule_result self.number s d }
     {
         RESULTS[self.number as usize][(2 * s + d) as usize]

@@ -1,5 +1,6 @@
 //! A bitmap's size, and which pixels and values it has.
-ghost use Rattle.std.specs.Prelude.{◌≡◌, ◌^◌, nat_le, unsigned_abs};
+ghost use Rattle.std.specs.Prelude.{◌≡◌, ◌^◌, if◌then◌else◌, Some, None, pos, nat_le, unsigned_abs};
+ghost use Rattle.raster.specs.Blt.{holds};
 ghost use Rattle.raster.specs.Calls.{unless, bitmap_fault, read_at, write_at};
 
 use crate::fault::Fault;
@@ -11,6 +12,16 @@ pub struct Size {
     pub width: u16,
     pub height: u16,
     pub depth: u8,
+}
+
+/// A coordinate as an index, if it is one of the first `n`.
+fn below(z: i16, n: u16) -> Option<u16>
+    ensures { result ≡ (if holds (pos 0) n z then Some (unsigned_abs z) else None) }
+{
+    match u16::try_from(z) {
+        Ok(z) if z < n => Some(z),
+        _ => None,
+    }
 }
 
 impl Size {
@@ -25,21 +36,13 @@ impl Size {
     pub fn read_place(self, x: i16, y: i16) -> Result<(u16, u16), Fault>
         ensures { result ≡ unless (bitmap_fault self (read_at x y)) (unsigned_abs x, unsigned_abs y) }
     {
-        let outside = Fault {
-            refusal: Refusal::OutsideBitmap,
-            x,
-            y,
-        };
-        if x < 0 || y < 0 {
-            return Err(outside);
-        }
-        let column = x as u16;
-        let row = y as u16;
-        if column < self.width && row < self.height {
-            Ok((column, row))
-        } else {
-            Err(outside)
-        }
+        below(x, self.width)
+            .zip(below(y, self.height))
+            .ok_or(Fault {
+                refusal: Refusal::OutsideBitmap,
+                x,
+                y,
+            })
     }
 
     /// The column and row of the pixel (x, y), for a write of the value `v`.

@@ -4,7 +4,7 @@ ghost use Rattle.raster.specs.Blits.{turn};
 ghost use Rattle.raster.specs.Clip.{Clipped};
 
 /// The destination coordinates concerned are the `len` from `first`; their source coordinates are the `len` from `source`.
-#[derive(Clone, Copy)]
+#[derive(Clone, Copy, Default)]
 pub struct Span {
     pub first: u16,
     pub source: u16,
@@ -39,11 +39,7 @@ impl Span {
                 len: (high - low) as u16,
             }
         } else {
-            Span {
-                first: 0,
-                source: 0,
-                len: 0,
-            }
+            Span::default()
         }
     }
 
