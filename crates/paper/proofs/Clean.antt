@@ -1,7 +1,8 @@
 -- Every layer's picture is 0 outside its size, and so is what a call leaves.
 use Rattle.std.proofs.Common.{◌≡◌, ℕ, Bool, true, false, cond, eqb, List, [], ◌∷◌, ◌++◌, Some, refl}
 use Rattle.raster.specs.Picture.{Picture}
-use Rattle.raster.specs.Blt.{Transfer, Source, blt}
+use Rattle.raster.specs.Blt.{Source, blt}
+use Rattle.raster.specs.declared.transfer.Transfer.{Transfer}
 use Rattle.paper.specs.Layers.{Desk, Layer, or_blank, pixels_of, pane, keep, only, without, alter, with_pixels, at_corner}
 use Rattle.paper.specs.Desk.{Call, open_layer, close_layer, raise_layer, lower_layer, move_layer, fill_layer, scroll_layer, stamp_layer, read_layer, repaint, change, after}
 use Rattle.paper.specs.Run.{Alike, none, more, SameLayer}

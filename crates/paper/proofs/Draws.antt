@@ -4,7 +4,8 @@ use Rattle.std.proofs.lemmas.Int.{ints}
 use Rattle.std.proofs.lemmas.Bool.{cases_Bool, and_left, and_right, both_ways, false≢true}
 use Rattle.std.proofs.lemmas.Bool.Decides.{nat_tests}
 use Rattle.raster.specs.Picture.{Picture, sizes}
-use Rattle.raster.specs.Blt.{Transfer, inside, concerned, blt}
+use Rattle.raster.specs.Blt.{inside, concerned, blt}
+use Rattle.raster.specs.declared.transfer.Transfer.{Transfer}
 use Rattle.raster.specs.Calls.{BitmapCall, read_at, write_at, fill_with, scroll_by, unless, first_fault, refuse_if, bitmap_fault, bitmap_change, bitmap_after}
 use Rattle.raster.specs.declared.fault.Fault.{Fault}
 use Rattle.raster.specs.declared.refusal.Refusal.TheVariants.{ClientAboveSeven, NotOpen}

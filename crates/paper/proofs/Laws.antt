@@ -2,7 +2,8 @@
 use Rattle.std.proofs.Common.{◌≡◌, ℕ, ◌+◌, ◌<◌, ◌≤◌, Bool, true, false, cond, not, eqb, List, [], ◌∷◌, ◌++◌, length, ℤ, is_some, Some, None, Ok, Err, Option, sym, refl, ap, ◌∙◌, subst, ap₂, arith}
 use Rattle.std.proofs.lemmas.Bool.{eq-eqb, eqb-true, lt-ltb, ltb-false}
 use Rattle.raster.specs.Picture.{Picture, sizes}
-use Rattle.raster.specs.Blt.{Transfer, Source, blt}
+use Rattle.raster.specs.Blt.{Source, blt}
+use Rattle.raster.specs.declared.transfer.Transfer.{Transfer}
 use Rattle.raster.specs.Calls.{refuse_if, first_fault}
 use Rattle.raster.specs.declared.refusal.Refusal.TheVariants.{NotOpen}
 use Rattle.raster.specs.declared.size.Size.{Size}

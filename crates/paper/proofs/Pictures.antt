@@ -6,7 +6,8 @@ use Rattle.std.proofs.lemmas.Bool.Decides.{nat_tests}
 use Rattle.std.proofs.lemmas.Bool.{and_parts, and_left, and_right, cond-false}
 use Rattle.raster.specs.Rules.{combined}
 use Rattle.raster.specs.Picture.{Picture, sizes, painted}
-use Rattle.raster.specs.Blt.{Transfer, Source, from_picture, holds, in_rectangle, inside, behind, concerned, count, blt}
+use Rattle.raster.specs.Blt.{Source, from_picture, holds, in_rectangle, inside, behind, concerned, count, blt}
+use Rattle.raster.specs.declared.transfer.Transfer.{Transfer}
 use Rattle.raster.specs.declared.size.Size.{Size}
 use Rattle.raster.proofs.Paints.{same_picture, painted_same}
 use Rattle.paper.specs.Layers.{blank}

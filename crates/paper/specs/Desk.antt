@@ -1,7 +1,8 @@
 -- The calls of a desk on paper: what each answers, when it is refused, and the desk that it leaves.
 use Rattle.std.specs.Prelude.{ℕ, Bool, false, not, ◌||◌, List, [], ◌∷◌, ◌++◌, ℤ, Some, None, Option, Result, ◌==◌, nat_eq, nat_lt}
 use Rattle.raster.specs.Picture.{Picture, sizes}
-use Rattle.raster.specs.Blt.{Transfer, from_picture, inside, count, blt}
+use Rattle.raster.specs.Blt.{from_picture, inside, count, blt}
+use Rattle.raster.specs.declared.transfer.Transfer.{Transfer}
 use Rattle.raster.specs.Calls.{BitmapCall, read_at, fill_with, scroll_by, refuse_if, first_fault, unless, if_refused, bitmap_fault, bitmap_value, bitmap_change}
 use Rattle.raster.specs.declared.refusal.Refusal.{Refusal}
 use Rattle.raster.specs.declared.refusal.Refusal.TheVariants.{ClientAboveSeven, NotOpen, AlreadyOpen, OpenBeyondSize, RuleAboveFifteen, ValueTooLarge, OutsideBitmap, TooFewSlots}
@@ -70,13 +71,24 @@ accepted_value d (read_layer c x y) = bitmap_value (pane c d) (read_at x y)
 
 -- ── Refusals ──
 
--- A fault of the desk's own, without a bitmap's fault.
+-- A fault of the desk's own, without a bitmap's fault: of a call that names a client, and of one that names none.
 abbrev pub because : Refusal → (client : ℕ) → DeskFault
-because why c = record { refusal = why; client = c; bitmap = None }
+because why c = record { refusal = why; client = Some c; bitmap = None }
+
+abbrev pub unnamed : Refusal → DeskFault
+unnamed why = record { refusal = why; client = None; bitmap = None }
+
+-- The number that a fault reports for its client: 255 if it has none.
+abbrev pub number_of : Option ℕ → ℕ
+number_of (Some c) = c
+number_of None = 255
+
+abbrev pub client_number : DeskFault → ℕ
+client_number f = number_of f.client
 
 -- A bitmap's fault, carried whole.
 abbrev pub carried : (client : ℕ) → Option Fault → Option DeskFault
-carried c (Some f) = Some (record { refusal = f.refusal; client = c; bitmap = Some f })
+carried c (Some f) = Some (record { refusal = f.refusal; client = Some c; bitmap = Some f })
 carried c None = None
 
 abbrev pub no_client : ℕ → Option DeskFault
@@ -141,9 +153,9 @@ abbrev pub client_if : Option Layer → Option ℕ
 client_if (Some l) = Some l.client
 client_if None = None
 
--- The client whose layer is topmost at a screen place, or none. Off the screen it is refused; it names no client, hence 255.
+-- The client whose layer is topmost at a screen place, or none. Off the screen it is refused; it names no client.
 unfoldable pub top_answer : Desk → ℤ → ℤ → Result (Option ℕ) DeskFault
-top_answer d x y = unless (refuse_if (not (inside d.size x y)) (because OutsideBitmap 255)) (client_if (topmost d.layers x y))
+top_answer d x y = unless (refuse_if (not (inside d.size x y)) (unnamed OutsideBitmap)) (client_if (topmost d.layers x y))
 
 -- The slots in use and the slots there are.
 abbrev pub slots_answer : Desk → ℕ × ℕ

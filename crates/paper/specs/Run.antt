@@ -1,7 +1,7 @@
 -- Runs: lists of calls to one desk, with the answer of each and what stands after it.
 use Rattle.std.specs.Prelude.{◌≡◌, ℕ, zero, suc, ◌<◌, Bool, true, false, cond, List, [], ◌∷◌, ◌++◌, Ok, Err, Option, ◌==◌}
 use Rattle.raster.specs.Picture.{Picture}
-use Rattle.raster.specs.Blt.{Transfer}
+use Rattle.raster.specs.declared.transfer.Transfer.{Transfer}
 use Rattle.raster.specs.declared.size.Size.{Size}
 use Rattle.paper.specs.Layers.{Desk, Layer, new_desk, blank, pixels_of, screen_after}
 use Rattle.paper.specs.Slots.{hidden_count}
