@@ -1,2 +1,3 @@
-pub mod Refill
+pub mod Store
+pub mod Painting
 pub mod Lawful

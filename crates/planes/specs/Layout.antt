@@ -2,6 +2,7 @@
 use Rattle.std.specs.Prelude.{◌≡◌, ℕ, ◌+◌, ◌-◌, ◌*◌, ◌/◌, ◌%◌, ◌^◌, ◌<◌, ◌≤◌, min, max, cond, ◌&&◌, List, length, ◌==◌, ◌≢◌, nat_lt, slice_index}
 use Rattle.raster.specs.Rules.{total, bit}
 use Rattle.raster.specs.Picture.{Picture}
+use Rattle.raster.specs.Rows.{rows_carried}
 use Rattle.raster.specs.declared.size.Size.{Size}
 
 -- the words of a row: a 32nd of its width, rounded up
@@ -33,15 +34,16 @@ laid_out words s = record {
 abbrev pub Carried : ℕ → Size → Type 0
 Carried n s = (s.width ≤ 1024) × (s.height ≤ 1024) × (1 ≤ s.depth) × (s.depth ≤ 4) × (s.depth * s.height * stride s.width ≤ n)
 
+-- a pixel (x, y) of a size
+abbrev pub InBitmap : Size → (x y : ℕ) → Type 0
+InBitmap s x y = (x < s.width) × (y < s.height)
+
 -- The size of planes made on n words: width and height are cut to 1,024, the depth is brought into 1 to 4,
 -- and the height is cut to what the words carry. Words carry every height of a width of 0.
-abbrev pub rows_in : (n w h depth : ℕ) → ℕ
-rows_in n w h depth = cond (stride w == 0) h (min h (n / (stride w * depth)))
-
 abbrev pub made_size : (n w h depth : ℕ) → Size
 made_size n w h depth = record {
   width = min w 1024;
-  height = rows_in n (min w 1024) (min h 1024) (max 1 (min depth 4));
+  height = rows_carried n (stride (min w 1024) * max 1 (min depth 4)) (min h 1024);
   depth = max 1 (min depth 4);
 }
 

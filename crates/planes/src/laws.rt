@@ -2,8 +2,6 @@
 ghost use Rattle.planes.specs.Laws.{PlanesLaws};
 
 /// What the layout means: the laws of specs/Laws.antt hold.
-pub fn planes_laws() -> u8
+pub fn planes_laws()
     ensures { PlanesLaws }
-{
-    0
-}
+{}

@@ -1,38 +1,39 @@
 //! Rectangles, painted pixel by pixel where they lie.
-ghost use Rattle.std.specs.Prelude.{◌≡◌, ◌<◌, length};
+ghost use Rattle.std.specs.Prelude.{◌≡◌, ◌<◌};
 ghost use Rattle.raster.specs.Blits.{Below, performed};
 ghost use Rattle.raster.proofs.Paints.{row_painted};
-ghost use Rattle.planes.specs.Layout.{laid_out, Carried, Kept};
+ghost use Rattle.planes.specs.Means.{picture_of, PlanesKept};
 
-use crate::words::{sample, touch};
-use raster::{Blit, Size};
+use crate::planes::Planes;
+use raster::Blit;
 
-/// Paints the columns of a blit in the row `y`, from the row `sy`.
-fn paint_row(words: &mut [u32], size: Size, blit: Blit, y: u16, sy: u16)
-    requires carried { Carried (length words.old) size }
-    requires columns { Below size.width blit.columns }
-    requires row { y < size.height }
-    requires from { sy < size.height }
-    ensures after { laid_out words.new size ≡ row_painted blit y sy (laid_out words.old size) }
-    ensures rest { Kept size words.old words.new }
-{
-    for i in 0..blit.columns.len {
-        let k = blit.columns.turn(i);
-        let s = sample(words, size, blit.ink, blit.columns.source + k, sy);
-        touch(words, size, blit.rule, s, blit.columns.first + k, y);
+#[tactic(auto, using(crate::proofs::Painting::painting))]
+impl Planes {
+    /// Paints the columns of a blit in the row `y`, from the row `sy`.
+    fn paint_row(&mut self, blit: Blit, y: u16, sy: u16)
+        requires columns { Below self.old.size.width blit.columns }
+        requires row { y < self.old.size.height }
+        requires from { sy < self.old.size.height }
+        ensures after { picture_of self.new ≡ row_painted blit y sy (picture_of self.old) }
+        ensures rest { PlanesKept self.old self.new }
+    {
+        for i in 0..blit.columns.len {
+            let k = blit.columns.turn(i);
+            let s = self.sample(blit.ink, blit.columns.source + k, sy);
+            self.touch(blit.rule, s, blit.columns.first + k, y);
+        }
     }
-}
 
-/// Performs a blit.
-pub(crate) fn paint(words: &mut [u32], size: Size, blit: Blit)
-    requires carried { Carried (length words.old) size }
-    requires columns { Below size.width blit.columns }
-    requires rows { Below size.height blit.rows }
-    ensures after { laid_out words.new size ≡ performed blit (laid_out words.old size) }
-    ensures rest { Kept size words.old words.new }
-{
-    for j in 0..blit.rows.len {
-        let k = blit.rows.turn(j);
-        paint_row(words, size, blit, blit.rows.first + k, blit.rows.source + k);
+    /// Performs a blit.
+    pub(crate) fn paint(&mut self, blit: Blit)
+        requires columns { Below self.old.size.width blit.columns }
+        requires rows { Below self.old.size.height blit.rows }
+        ensures after { picture_of self.new ≡ performed blit (picture_of self.old) }
+        ensures rest { PlanesKept self.old self.new }
+    {
+        for j in 0..blit.rows.len {
+            let k = blit.rows.turn(j);
+            self.paint_row(blit, blit.rows.first + k, blit.rows.source + k);
+        }
     }
 }

@@ -1,9 +1,8 @@
-use Rattle.std.proofs.Common.{ℕ, List, nat_abs, ap, ◌∙◌, arith}
+use Rattle.std.proofs.Common.{nat_abs}
 use Rattle.std.proofs.lemmas.Result.{err_from_is_err_and}
 use Rattle.std.proofs.lemmas.Int.{to_z-of_z}
 use Rattle.raster.specs.Calls.{read_at}
 use Rattle.raster.proofs.Called.{place_refused, read_found}
-use Rattle.planes.specs.Layout.{laid_out}
 use Rattle.planes.specs.Means.{picture_of}
 use Rattle.planes.proofs.calls.PlanesBitmap.read.Goals as goal
 
@@ -21,7 +20,7 @@ get-requires c =
     let fx = c.ranges.x in
     let fy = c.ranges.y in
     let f = read_found (picture_of a.self.now) a.x a.y c.in_ok-column.column c.in_ok-column.row (simp to_z-of_z at c.in_ok-column.ensures) in
-    record { carried = (omega arith, omega arith, omega arith, omega arith, omega arith); across = f.across; down = f.down }
+    (f.across, f.down)
 
 pub returns : goal.returns
 returns c =
@@ -29,5 +28,4 @@ returns c =
     let fx = c.ranges.x in
     let fy = c.ranges.y in
     let f = read_found (picture_of a.self.now) a.x a.y c.in_ok-column.column c.in_ok-column.row (simp to_z-of_z at c.in_ok-column.ensures) in
-    f.answer c.get.result
-    (c.get.ensures ∙ ap (λ (ws : List ℕ). (laid_out ws a.self.now.size).at c.in_ok-column.column c.in_ok-column.row) c.as_slice.ensures.value)
+    f.answer c.get.result c.get.ensures

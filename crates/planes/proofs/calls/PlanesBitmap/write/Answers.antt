@@ -1,12 +1,10 @@
-use Rattle.std.proofs.Common.{◌≡◌, ℕ, length, nat_abs, vec_len, refl, ◌∙◌, arith}
+use Rattle.std.proofs.Common.{ℕ, nat_abs, refl}
 use Rattle.std.proofs.lemmas.Result.{err_from_is_err_and}
 use Rattle.std.proofs.lemmas.Int.{to_z-of_z}
 use Rattle.raster.specs.Calls.{write_at}
-use Rattle.raster.specs.Picture.{with_pixel}
 use Rattle.raster.proofs.Called.{place_refused, write_found}
 use Rattle.planes.specs.Means.{picture_of}
 use Rattle.planes.specs.Keep.{planes_same}
-use Rattle.planes.proofs.Refill.{refilled_laid, refilled_kept}
 use Rattle.planes.proofs.calls.PlanesBitmap.write.Goals as goal
 
 pub returns-in_err-column : goal.returns-in_err-column
@@ -24,7 +22,7 @@ put-requires c =
     let fx = c.ranges.x in
     let fy = c.ranges.y in
     let f = write_found (picture_of a.self.now) a.x a.y a.v c.in_ok-column.column c.in_ok-column.row (simp to_z-of_z at c.in_ok-column.ensures) in
-    record { carried = (omega arith, omega arith, omega arith, omega arith, omega arith); across = f.across; down = f.down; small = f.small }
+    record { pixel = (f.across, f.down); small = f.small }
 
 pub returns : goal.returns
 returns c =
@@ -35,10 +33,9 @@ returns c =
     let column : ℕ = c.in_ok-column.column in
     let row : ℕ = c.in_ok-column.row in
     let f = write_found (picture_of s) a.x a.y a.v column row (simp to_z-of_z at c.in_ok-column.ensures) in
-    let long : length c.put.new.words ≡ vec_len s.words = c.put.auto.words ∙ c.as_mut_slice.ensures.len in
     record {
       answer = f.answer;
-      after = f.after _ (refilled_laid s.words c.as_mut_slice.result.now c.put.new.words s.size c.as_mut_slice.ensures.value long (λ p. with_pixel p column row a.v) c.put.ensures.after);
-      rest = record { size = refl; words = refilled_kept s.words c.as_mut_slice.result.now c.put.new.words s.size c.as_mut_slice.ensures.value long c.put.ensures.rest };
+      after = f.after (picture_of c.put.new.self) c.put.ensures.after;
+      rest = c.put.ensures.rest;
       refused = tt;
     }
