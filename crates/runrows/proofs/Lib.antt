@@ -1,3 +1,4 @@
-pub mod Ahead
 pub mod Blend
 pub mod Lawful
+pub mod Filled
+pub mod Called

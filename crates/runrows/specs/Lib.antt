@@ -1,5 +1,4 @@
 pub mod Runs
-pub mod Reading
 pub mod Writing
 pub mod Means
 pub mod Laws

@@ -1,6 +1,11 @@
 -- What run rows mean, and what of them is no pixel.
-use Rattle.std.specs.Prelude.{◌≡◌, ℕ, Bool, List, vec_items}
-use Rattle.raster.specs.Picture.{Picture}
+use Rattle.std.specs.Prelude.{◌≡◌, ℕ, ◌<◌, Bool, cond, ◌&&◌, List, length, Result, ◌==◌, nat_lt, slice_index, vec_items}
+use Rattle.raster.specs.Rules.{combined}
+use Rattle.raster.specs.Picture.{Picture, painted}
+use Rattle.raster.specs.Blits.{spans, opposite}
+use Rattle.raster.specs.Calls.{BitmapCall, bitmap_answer, bitmap_after, row_concerned, Unaltered}
+use Rattle.raster.specs.declared.fault.Fault.{Fault}
+use Rattle.raster.specs.declared.span.Span.{Span}
 use Rattle.runrows.specs.Runs.{run_rows, Rewritten}
 use Rattle.runrows.specs.declared.runrows.RunRows.{RunRows}
 
@@ -11,6 +16,16 @@ entries_of p = vec_items p.entries
 abbrev pub picture_of : RunRows → Picture
 picture_of p = run_rows (entries_of p) p.size
 
+-- The picture with other pixels in row y.
+abbrev pub with_row : Picture → (y : ℕ) → List ℕ → Picture
+with_row p y pixels = painted p (λ a b. nat_lt a p.width && b == y) (λ a _. slice_index pixels a)
+
+-- In a row of pixels, those of a span are the rule's result of a source row's pixels and their own; the others stay.
+abbrev pub Blended : (depth rule : ℕ) → Span → (source before after : List ℕ) → Type 0
+Blended depth rule columns source before after =
+    (k : ℕ) → k < length after
+    → slice_index after k ≡ cond (spans columns k) (combined depth rule (slice_index source (opposite columns k)) (slice_index before k)) (slice_index before k)
+
 -- The size is the same, the rows that a test picks stand in their one writing, and all other entries stay.
 pub record RowsRewritten (touched : ℕ → Bool) (p q : RunRows) : Type 0 where
   pub size : q.size ≡ p.size
@@ -19,3 +34,10 @@ pub record RowsRewritten (touched : ℕ → Bool) (p q : RunRows) : Type 0 where
 -- The size is the same, each row is as it was or in its one writing, and all entries past the rows stay.
 abbrev pub RowsKept : RunRows → RunRows → Type 0
 RowsKept p q = (touched : ℕ → Bool) × RowsRewritten touched p q
+
+-- What a call answers and leaves: what every bitmap promises, and each row with a pixel concerned stands in its one writing, and all other entries stay.
+pub record Called (call : BitmapCall) (r : Result ℕ Fault) (p q : RunRows) : Type 0 where
+  pub answer : r ≡ bitmap_answer (picture_of p) call
+  pub after : picture_of q ≡ bitmap_after (picture_of p) call
+  pub refused : Unaltered r p q
+  pub entries : RowsRewritten (row_concerned (picture_of p) call) p q

@@ -1,29 +1,22 @@
 -- Rows in a list of entries: where they lie, what a written row changes, and what is kept from call to call.
 -- Lemmas: proved, not to be believed. They stand here since the laws in the impl of Bitmap cite them.
-use Rattle.std.specs.Prelude.{◌≡◌, ℕ, suc, ◌+◌, ◌-◌, ◌*◌, ◌<◌, ◌≤◌, Bool, true, false, cond, ◌&&◌, ◌||◌, List, length, take, drop, ◌==◌, ◌≢◌, nat_eq, nat_lt, slice_index, refl}
+use Rattle.std.specs.Prelude.{◌≡◌, ℕ, suc, ◌+◌, ◌-◌, ◌*◌, ◌<◌, ◌≤◌, Bool, true, false, cond, ◌&&◌, ◌||◌, ◌⊎◌, List, length, take, drop, ◌==◌, ◌≢◌, nat_eq, nat_lt, slice_index, refl}
 use Rattle.std.proofs.Common.{sym, ap, subst, ◌∙◌, inl, inr, ⊎_elim, suc-mul, arith, rules}
 use borrow.Rule.Slice.PartMut.{put_mid}
 use Rattle.std.proofs.lemmas.Nat.{mul-le}
 use Rattle.std.proofs.lemmas.List.{ext_get_or, get_or-take, get_or-drop, length-take, length-drop, places}
 use Rattle.std.proofs.lemmas.Slice.{between-put_mid}
-use Rattle.std.proofs.lemmas.Bool.{cond-true, cond-false, cases_Bool, cases_lt, cases_eq, and_parts, both_ways, eqb-true, ltb-true, or_cases, or_parts, eqb-false}
+use Rattle.std.proofs.lemmas.Bool.{cases_Bool, cases_lt, both_ways, eqb-true, or_cases, or_parts, eqb-false}
 use Rattle.std.proofs.lemmas.Bool.Decides.{nat_tests}
-use Rattle.raster.specs.Picture.{Sound}
 use Rattle.raster.specs.declared.size.Size.{Size}
-use Rattle.raster.proofs.Paints.{cond_less}
 use Rattle.runrows.specs.Runs.{run_at, run_rows, row_entries, Carried, Settled, Rewritten}
-use Rattle.runrows.specs.Writing.{RowWritten}
-use Rattle.runrows.specs.Spell.{run_below}
 
-pub rows_sound : (entries : List ℕ) (n : ℕ) (s : Size) → Carried n s → Sound (run_rows entries s)
-rows_sound entries n s c =
-    record {
-      wide = c.0;
-      high = c.1;
-      deep = (c.2, c.3);
-      values = λ x y. cond_less (nat_lt x s.width && nat_lt y s.height) _ _ (run_below s.depth (row_entries entries s.width y) x);
-      outside = λ x y o. cond-false (nat_lt x s.width && nat_lt y s.height) _ _ (grind (arith, nat_tests));
-    }
+-- Row y holds some pixels in their one writing, and all other entries stay.
+pub record RowWritten (s : Size) (y : ℕ) (pixels es fs : List ℕ) : Type 0 where
+  pub long : length fs ≡ length es
+  pub others : (k : ℕ) → (k < y * s.width) ⊎ (y * s.width + s.width ≤ k) → slice_index fs k ≡ slice_index es k
+  pub settled : Settled s.depth (row_entries fs s.width y) s.width
+  pub value : (x : ℕ) → x < s.width → run_at s.depth (row_entries fs s.width y) x ≡ slice_index pixels x
 
 -- two rows do not overlap, and each has room
 rows_apart : (w y z : ℕ) → y < z → y * w + w ≤ z * w
@@ -31,13 +24,6 @@ rows_apart w y z l = omega (arith, suc-mul y w, mul-le (suc y) w z w l (omega ar
 
 pub row_room : (s : Size) (n y : ℕ) → Carried n s → y < s.height → y * s.width + s.width ≤ n
 row_room s n y c l = omega (arith, c.4, rows_apart s.width y s.height l)
-
--- a part of as many entries as the row is wide is the row
-pub whole_row : (entries : List ℕ) (w y : ℕ) → take (y * w + w - y * w) (drop (y * w) entries) ≡ row_entries entries w y
-whole_row entries w y = ap (λ n. take n (drop (y * w) entries)) (omega arith)
-
-pub row_length : (entries : List ℕ) (s : Size) (y : ℕ) → Carried (length entries) s → y < s.height → length (row_entries entries s.width y) ≡ s.width
-row_length entries s y c l = let room = row_room s (length entries) y c l in simp (length-take, length-drop) (omega arith)
 
 -- rows of lists that agree there
 rows_alike : (es fs : List ℕ) (w y : ℕ) → length fs ≡ length es → ((k : ℕ) → y * w ≤ k → k < y * w + w → slice_index fs k ≡ slice_index es k)
@@ -79,21 +65,10 @@ module _ (s : Size) (y : ℕ) (pixels es fs : List ℕ) (ly : y < s.height) (r :
   -- the pixels after it
   pub written_at : (a b : ℕ) → (run_rows fs s).at a b ≡ cond (nat_lt a s.width && b == y) (slice_index pixels a) ((run_rows es s).at a b)
   written_at a b =
-      ⊎_elim
-      (λ (t : (nat_lt a s.width && nat_lt b s.height) ≡ true).
-      let q = and_parts (nat_lt a s.width) (nat_lt b s.height) t in
-      let la = ltb-true a s.width q.0 in
-      cond-true (nat_lt a s.width && nat_lt b s.height) _ _ t
-      ∙ ⊎_elim
-      (λ (e : b ≡ y). ap (λ n. run_at s.depth (row_entries fs s.width n) a) e ∙ r.value a la ∙ sym (cond-true (nat_lt a s.width && b == y) _ _ (grind (arith, nat_tests))))
-      (λ (ne : b ≡ y → ⊥).
-      ap (λ (gs : List ℕ). run_at s.depth gs a) (row_stays s y pixels es fs b r ne) ∙ sym (cond-true (nat_lt a s.width && nat_lt b s.height) _ _ t)
-      ∙ sym (cond-false (nat_lt a s.width && b == y) _ _ (grind (arith, nat_tests))))
-      (cases_eq b y))
-      (λ (t : (nat_lt a s.width && nat_lt b s.height) ≡ false).
-      cond-false (nat_lt a s.width && nat_lt b s.height) _ _ t
-      ∙ sym (cond-false (nat_lt a s.width && b == y) _ _ (grind (arith, nat_tests)) ∙ cond-false (nat_lt a s.width && nat_lt b s.height) _ _ t))
-      (cases_Bool (nat_lt a s.width && nat_lt b s.height))
+      let mine : b ≡ y → a < s.width → run_at s.depth (row_entries fs s.width b) a ≡ slice_index pixels a = λ e l. ap (λ n. run_at s.depth (row_entries fs s.width n) a) e ∙ r.value a l in
+      let other : b ≢ y → run_at s.depth (row_entries fs s.width b) a ≡ run_at s.depth (row_entries es s.width b) a =
+      λ ne. ap (λ (gs : List ℕ). run_at s.depth gs a) (row_stays s y pixels es fs b r ne) in
+      grind (arith, nat_tests)
 
   pub written_rewrites : Rewritten s (λ b. nat_eq b y) es fs
   written_rewrites =
@@ -122,8 +97,3 @@ rewritten_joins s t u v a b c e p q =
           subst (λ (es : List ℕ). Settled s.depth es s.width) (sym (q.stays y l g)) (p.settles y l h))
           (cases_Bool (u y));
     }
-
--- the same rows under another test for them
-pub rewritten_as : (s : Size) (t u : ℕ → Bool) (a b : List ℕ) → ((y : ℕ) → t y ≡ u y) → Rewritten s t a b → Rewritten s u a b
-rewritten_as s t u a b e p =
-    record { long = p.long; past = p.past; stays = λ y l f. p.stays y l (e y ∙ f); settles = λ y l f. p.settles y l (e y ∙ f) }

@@ -1,27 +1,10 @@
 //! How run rows are made, and how their list is given back.
-ghost use Rattle.std.specs.Prelude.{◌≡◌, ◌*◌, ◌≤◌, vec_len};
-ghost use Rattle.runrows.specs.Runs.{rows_in, run_rows, made_size};
+ghost use Rattle.std.specs.Prelude.{◌≡◌, vec_len};
+ghost use Rattle.runrows.specs.Runs.{run_rows, made_size};
 ghost use Rattle.runrows.specs.Means.{entries_of, picture_of};
 
 use crate::runrows::RunRows;
-use raster::Size;
-
-/// The height cut to what `n` entries carry.
-fn carried_rows(n: usize, width: u16, height: u16) -> u16
-    ensures value { result ≡ rows_in n width height }
-    ensures room { result * width ≤ n }
-    ensures below { result ≤ height }
-{
-    if width == 0 {
-        return height;
-    }
-    let rows = n / width as usize;
-    if rows < height as usize {
-        rows as u16
-    } else {
-        height
-    }
-}
+use raster::{Size, rows_carried};
 
 impl RunRows {
     /// Takes a list as it is. Width and height are cut to 1,024 and the height to what the list carries; the depth is brought into 1 to 4.
@@ -30,8 +13,8 @@ impl RunRows {
         ensures entries { entries_of result ≡ entries.items }
     {
         let width = width.min(1024);
-        let height = carried_rows(entries.len(), width, height.min(1024));
-        let depth = depth.min(4).max(1);
+        let height = rows_carried(entries.len(), usize::from(width), height.min(1024));
+        let depth = depth.clamp(1, 4);
         RunRows {
             entries,
             size: Size {

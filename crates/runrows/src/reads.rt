@@ -1,84 +1,66 @@
 //! How the pixels of a row are read, whatever its entries hold.
-ghost use Rattle.std.specs.Prelude.{◌≡◌, ℕ, ◌<◌, ◌≤◌, length, slice_index};
-ghost use Rattle.runrows.specs.Runs.{run_at};
-ghost use Rattle.runrows.specs.Reading.{Refilled, Onward};
+ghost use Rattle.std.specs.Prelude.{◌≡◌, ℕ, ◌/◌, ◌%◌, ◌^◌, ◌<◌, length, slice_index};
+ghost use Rattle.runrows.specs.Runs.{row_entries};
+ghost use Rattle.runrows.specs.Means.{entries_of, picture_of};
 
-/// The pixel `x` of a row.
-pub(crate) fn run_pixel(row: &[u16], depth: u8, x: u16) -> u8
-    requires { depth ≤ 4 }
-    ensures { result ≡ run_at depth row.now x }
-{
-    let mut left = x;
-    for entry in row {
-        let len = *entry / 16;
-        if len == 0 {
-            return 0;
-        }
-        if left < len {
-            return (*entry % 16 % (1 << depth)) as u8;
-        }
-        left -= len;
-    }
-    0
-}
+use crate::runrows::RunRows;
 
-/// Where a row is being read: `left` more pixels of a value, then the entries to come.
-#[derive(Drop)]
-struct Reader<'a> {
-    rest: &'a [u16],
-    depth: u8,
-    left: u16,
-    value: u8,
-}
-
-impl Reader<'_> {
-    /// Takes the next entry where a run is used up. An entry of length 0 ends the row.
-    fn refill(&mut self)
-        requires { self.old.depth ≤ 4 }
-        ensures depth { self.new.depth ≡ self.old.depth }
-        ensures refilled { Refilled self.old.depth self.old.left self.old.value self.old.rest.now self.new.left self.new.value self.new.rest.now }
+impl RunRows {
+    /// The entries of row `y`.
+    fn row(&self, y: u16) -> &[u16]
+        requires { y < self.now.size.height }
+        ensures { result.now ≡ row_entries (entries_of self.now) self.now.size.width y }
     {
-        if self.left > 0 {
-            return;
-        }
-        let [entry, rest @ ..] = self.rest else {
-            return;
-        };
-        self.left = *entry / 16;
-        self.value = (*entry % 16 % (1 << self.depth)) as u8;
-        self.rest = rest;
-        if self.left == 0 {
-            self.rest = &[];
-        }
+        let start = y as usize * self.size.width as usize;
+        &self.entries[start..start + self.size.width as usize]
     }
 
-    /// The next pixel.
-    fn next(&mut self) -> u8
-        requires { self.old.depth ≤ 4 }
-        ensures depth { self.new.depth ≡ self.old.depth }
-        ensures onward { Onward self.old.depth self.old.left self.old.value self.old.rest.now result self.new.left self.new.value self.new.rest.now }
+    /// The length and the value of an entry's run.
+    fn run(&self, entry: u16) -> (u16, u8)
+        ensures long { result.0 ≡ entry / 16 }
+        ensures value { result.1 ≡ entry % 16 % 2 ^ self.now.size.depth }
     {
-        self.refill();
-        if self.left == 0 {
-            return 0;
-        }
-        self.left -= 1;
-        self.value
+        (entry / 16, (entry % 16 % (1 << self.size.depth)) as u8)
     }
-}
 
-/// Reads the pixels of a row, in one pass over its entries.
-pub(crate) fn unpack(row: &[u16], depth: u8, out: &mut [u8])
-    requires { depth ≤ 4 }
-    ensures { (k : ℕ) → k < length out.new → slice_index out.new k ≡ run_at depth row.now k }
-{
-    let mut reader = Reader {
-        rest: row,
-        depth,
-        left: 0,
-        value: 0,
-    };
-    for x in 0..out.len() {
-        out[x] = reader.next();
+    /// The pixel (x, y).
+    pub(crate) fn pixel(&self, x: u16, y: u16) -> u8
+        requires across { x < self.now.size.width }
+        requires down { y < self.now.size.height }
+        ensures { result ≡ (picture_of self.now).at x y }
+    {
+        let row = self.row(y);
+        let mut left = x;
+        for entry in row {
+            let (len, value) = self.run(*entry);
+            if len == 0 {
+                return 0;
+            }
+            if left < len {
+                return value;
+            }
+            left -= len;
+        }
+        0
+    }
+
+    /// Reads the pixels of row `y`, one run after the other.
+    pub(crate) fn unpack(&self, y: u16, out: &mut [u8])
+        requires down { y < self.now.size.height }
+        requires wide { length out.old ≡ self.now.size.width }
+        ensures { (k : ℕ) → k < self.now.size.width → slice_index out.new k ≡ (picture_of self.now).at k y }
+    {
+        let row = self.row(y);
+        let mut start = 0;
+        for entry in row {
+            let (len, value) = self.run(*entry);
+            if len == 0 {
+                break;
+            }
+            let end = (start + len as usize).min(out.len());
+            out[start..end].fill(value);
+            start = end;
+        }
+        out[start..].fill(0);
     }
 }

@@ -1,5 +1,10 @@
-use Rattle.runrows.proofs.Blend.{Blended}
+use Rattle.std.proofs.Common.{◌≡◌, ℕ, ◌<◌, ◌≤◌, min, get_or}
+use Rattle.raster.specs.Rules.{combined}
 use Rattle.runrows.proofs.paint.blend.Given as goal
 
 abbrev pub invariant-loop-i : goal.invariant-loop-i
-invariant-loop-i l = Blended l.depth l.rule.number l.columns l.i l.source l.initial.out l.out
+invariant-loop-i l =
+    record {
+      done : (k : ℕ) → k < l.i → get_or l.painted k 0 ≡ combined (min l.depth 8) l.rule.number (get_or l.source k 0) (get_or l.initial.painted k 0);
+      rest : (k : ℕ) → l.i ≤ k → get_or l.painted k 0 ≡ get_or l.initial.painted k 0;
+    }

@@ -1,11 +1,11 @@
-use Rattle.std.proofs.Common.{◌≡◌, ℕ, eqb, length, nat_abs, vec_len, refl, ◌∙◌, arith}
+use Rattle.std.proofs.Common.{ℕ, nat_abs}
 use Rattle.std.proofs.lemmas.Result.{err_from_is_err_and}
 use Rattle.std.proofs.lemmas.Int.{to_z-of_z}
 use Rattle.raster.specs.Calls.{write_at}
-use Rattle.raster.specs.Picture.{with_pixel}
 use Rattle.raster.proofs.Called.{place_refused, write_found}
 use Rattle.runrows.specs.Means.{picture_of}
-use Rattle.runrows.specs.Keep.{rows_same, untouched, refilled_rows, refilled_rewritten}
+use Rattle.runrows.specs.Keep.{rewritten_as}
+use Rattle.runrows.proofs.Called.{call_refused}
 use Rattle.runrows.proofs.calls.RunRowsBitmap.write.Goals as goal
 
 pub returns-in_err-column : goal.returns-in_err-column
@@ -14,8 +14,7 @@ returns-in_err-column c =
     let fx = c.ranges.x in
     let fy = c.ranges.y in
     let p = err_from_is_err_and c.from_residual.result c.from_residual.ensures.1 in
-    let r = place_refused (picture_of a.self.now) (write_at a.x a.y a.v) _ (nat_abs a.x, nat_abs a.y) (simp to_z-of_z at c.in_err-column.ensures) in
-    rw (p.1, p.2) (record { answer = r.answer; after = r.after; rest = rows_same a.self.now; refused = refl; entries = untouched a.self.now _ r.rows })
+    rw (p.1, p.2) (call_refused a.self.now _ _ (place_refused (picture_of a.self.now) (write_at a.x a.y a.v) _ (nat_abs a.x, nat_abs a.y) (simp to_z-of_z at c.in_err-column.ensures)))
 
 pub put-requires : goal.put-requires
 put-requires c =
@@ -23,7 +22,7 @@ put-requires c =
     let fx = c.ranges.x in
     let fy = c.ranges.y in
     let f = write_found (picture_of a.self.now) a.x a.y a.v c.in_ok-column.column c.in_ok-column.row (simp to_z-of_z at c.in_ok-column.ensures) in
-    record { carried = (omega arith, omega arith, omega arith, omega arith, omega arith); across = f.across; down = f.down; small = f.small }
+    record { across = f.across; down = f.down; small = f.small }
 
 pub returns : goal.returns
 returns c =
@@ -34,12 +33,5 @@ returns c =
     let column : ℕ = c.in_ok-column.column in
     let row : ℕ = c.in_ok-column.row in
     let f = write_found (picture_of s) a.x a.y a.v column row (simp to_z-of_z at c.in_ok-column.ensures) in
-    let long : length c.put.new.entries ≡ vec_len s.entries = c.put.auto.entries ∙ c.as_mut_slice.ensures.len in
-    let kept = refilled_rewritten s.entries c.as_mut_slice.result.now c.put.new.entries s.size c.as_mut_slice.ensures.value long (λ z. eqb z row) _ f.rows c.put.ensures.rest in
-    record {
-      answer = f.answer;
-      after = f.after _ (refilled_rows s.entries c.as_mut_slice.result.now c.put.new.entries s.size c.as_mut_slice.ensures.value long (λ p. with_pixel p column row a.v) c.put.ensures.after);
-      rest = (_, record { size = refl; entries = kept });
-      refused = tt;
-      entries = record { size = refl; entries = kept };
-    }
+    let kept = rewritten_as s c.put.new.self _ _ f.rows c.put.ensures.rest in
+    record { answer = f.answer; after = f.after _ c.put.ensures.after; refused = tt; entries = kept }
