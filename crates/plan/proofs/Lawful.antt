@@ -1,12 +1,12 @@
 -- Patches counted by their numbers are those that a desk on paper counts.
 use Rattle.std.proofs.Common.{◌≡◌, ℕ, ◌*◌, ◌<◌, ◌≤◌, Bool, true, false, cond, ◌&&◌, ◌||◌, eqb, ltb, ◌⊎◌, sym, refl, ap, ◌∙◌, inl, inr, ⊎_elim, arith}
-use Rattle.std.proofs.lemmas.Bool.{eqb-true, ne_eqb, or_from, and_from, and_left, and_right, lt-ltb, le-ltb, both_ways}
+use Rattle.std.proofs.lemmas.Bool.{eqb-true, or_from, and_from, and_left, and_right, lt-ltb, le-ltb, both_ways}
 use Rattle.paper.specs.Slots.{hidden_in, patches_in, count_patches, hidden_count, slots_needed}
-use Rattle.plan.specs.declared.frame.Frame.{Frame}
+use Rattle.raster.specs.declared.rectangle.Rectangle.{Rectangle}
 use Rattle.plan.specs.declared.plan.Plan.{Plan}
 use Rattle.plan.specs.Frames.{has}
-use Rattle.plan.specs.Plans.{listed, layers_in, frame_in, outline, above, hidden_patch, needs}
-use Rattle.plan.specs.Allots.{passing}
+use Rattle.plan.specs.Plans.{listed, layers_in, frame_in, outline, above, hidden_patch}
+use Rattle.plan.specs.Counts.{passing}
 use Rattle.plan.specs.Laws.{desk_in, AllStillOpen, PlanLaws}
 use Rattle.plan.proofs.Orders.{flip}
 use Rattle.plan.proofs.Sifts.{open_low}
@@ -14,7 +14,7 @@ use Rattle.plan.proofs.Patches.{hidden_closed, hidden_at, no_area}
 use Rattle.plan.proofs.Regroup.{tally, tally_none, tally_alike, tally_clients, by_number, passing_parts, layer_parts}
 
 -- a patch number at column i and row j lies outside a frame
-abbrev pub Outside : Frame → (i j : ℕ) → Type 0
+abbrev pub Outside : Rectangle → (i j : ℕ) → Type 0
 Outside f i j = (f.w ≤ 16 * i) ⊎ (f.h ≤ 16 * j)
 
 -- no patch outside a layer passes a test
@@ -54,34 +54,34 @@ hidden_counted p slots = regrouped p (hidden_of p) (hidden_of p) (hidden_bounded
 
 -- ── Patches in need ──
 
--- the patch is one of the moved layer
-abbrev moved_patch : Plan → (moved c i j : ℕ) → Bool
-moved_patch p moved c i j = has moved (listed p) && (eqb c moved && (ltb (16 * i) (frame_in p moved).w && ltb (16 * j) (frame_in p moved).h))
+-- the patch is one of a client's layer
+abbrev own_patch : Plan → (own c i j : ℕ) → Bool
+own_patch p own c i j = has own (listed p) && (eqb c own && (ltb (16 * i) (frame_in p own).w && ltb (16 * j) (frame_in p own).h))
 
-moved_bounded : (p : Plan) (moved : ℕ) → Bounded p (moved_patch p moved)
-moved_bounded p moved = record { closed = λ c i j h. closed c i j h (eqb c moved) refl; outside = λ c i j h o. outside c i j o (eqb c moved) refl }
+own_bounded : (p : Plan) (own : ℕ) → Bounded p (own_patch p own)
+own_bounded p own = record { closed = λ c i j h. closed c i j h (eqb c own) refl; outside = λ c i j h o. outside c i j o (eqb c own) refl }
   where
-    closed : (c i j : ℕ) → has c (listed p) ≡ false → (t : Bool) → eqb c moved ≡ t
-        → (has moved (listed p) && (t && (ltb (16 * i) (frame_in p moved).w && ltb (16 * j) (frame_in p moved).h))) ≡ false
-    closed c i j h true e = and_left _ _ (ap (λ k. has k (listed p)) (sym (eqb-true c moved e)) ∙ h)
-    closed c i j h false e = and_right (has moved (listed p)) false refl
+    closed : (c i j : ℕ) → has c (listed p) ≡ false → (t : Bool) → eqb c own ≡ t
+        → (has own (listed p) && (t && (ltb (16 * i) (frame_in p own).w && ltb (16 * j) (frame_in p own).h))) ≡ false
+    closed c i j h true e = and_left _ _ (ap (λ k. has k (listed p)) (sym (eqb-true c own e)) ∙ h)
+    closed c i j h false e = and_right (has own (listed p)) false refl
 
     small : (c i j : ℕ) → Outside (frame_in p c) i j → (ltb (16 * i) (frame_in p c).w && ltb (16 * j) (frame_in p c).h) ≡ false
     small c i j o =
         ⊎_elim (λ (l : (frame_in p c).w ≤ 16 * i). and_left _ _ (le-ltb (16 * i) (frame_in p c).w l)) (λ (l : (frame_in p c).h ≤ 16 * j). and_right _ _ (le-ltb (16 * j) (frame_in p c).h l)) o
 
-    outside : (c i j : ℕ) → Outside (frame_in p c) i j → (t : Bool) → eqb c moved ≡ t
-        → (has moved (listed p) && (t && (ltb (16 * i) (frame_in p moved).w && ltb (16 * j) (frame_in p moved).h))) ≡ false
+    outside : (c i j : ℕ) → Outside (frame_in p c) i j → (t : Bool) → eqb c own ≡ t
+        → (has own (listed p) && (t && (ltb (16 * i) (frame_in p own).w && ltb (16 * j) (frame_in p own).h))) ≡ false
     outside c i j o true e =
-        and_right (has moved (listed p)) _ (ap (λ k. ltb (16 * i) (frame_in p k).w && ltb (16 * j) (frame_in p k).h) (sym (eqb-true c moved e)) ∙ small c i j o)
-    outside c i j o false e = and_right (has moved (listed p)) false refl
+        and_right (has own (listed p)) _ (ap (λ k. ltb (16 * i) (frame_in p k).w && ltb (16 * j) (frame_in p k).h) (sym (eqb-true c own e)) ∙ small c i j o)
+    outside c i j o false e = and_right (has own (listed p)) false refl
 
-moved_inside : (p : Plan) (moved c i j : ℕ) → has c (listed p) ≡ true → 16 * i < (frame_in p c).w → 16 * j < (frame_in p c).h → moved_patch p moved c i j ≡ eqb moved c
-moved_inside p moved c i j h hi hj = go (eqb c moved) refl ∙ flip c moved
+own_inside : (p : Plan) (own c i j : ℕ) → has c (listed p) ≡ true → 16 * i < (frame_in p c).w → 16 * j < (frame_in p c).h → own_patch p own c i j ≡ eqb own c
+own_inside p own c i j h hi hj = go (eqb c own) refl ∙ flip c own
   where
-    go : (t : Bool) → eqb c moved ≡ t → moved_patch p moved c i j ≡ eqb c moved
+    go : (t : Bool) → eqb c own ≡ t → own_patch p own c i j ≡ eqb c own
     go true e =
-        let same = eqb-true c moved e in
+        let same = eqb-true c own e in
         and_from _ _ (ap (λ k. has k (listed p)) (sym same) ∙ h)
         (and_from _ _ e (ap (λ k. ltb (16 * i) (frame_in p k).w && ltb (16 * j) (frame_in p k).h) (sym same)
         ∙ and_from _ _ (lt-ltb (16 * i) (frame_in p c).w hi) (lt-ltb (16 * j) (frame_in p c).h hj))) ∙ sym e
@@ -104,26 +104,28 @@ before_bounded before after still = record {
         (⊎_elim (λ (l : (frame_in after c).w ≤ 16 * i). inl (omega (arith, (still c e).wide))) (λ (l : (frame_in after c).h ≤ 16 * j). inr (omega (arith, (still c e).high))) o)
     outside c i j o false e = (hidden_bounded before).closed c i j e
 
-module _ (before after : Plan) (moved slots : ℕ) (also : ℕ → Bool) (still : AllStillOpen before after) (same : (c : ℕ) → has c (listed after) ≡ true → also c ≡ eqb moved c) where
-  pub needs_counted : passing (needs before after moved) ≡ slots_needed also (desk_in before slots) (desk_in after slots)
+-- the patches in need, where those of the moved layer are all of some clients' patches
+module _ (before after : Plan) (slots : ℕ) (also : ℕ → Bool) (still : AllStillOpen before after) (moved : (c i j : ℕ) → Bool) (m : Bounded after moved)
+    (same : Agree after moved (λ c i j. also c)) where
+  pub needs_counted : passing (by_number (λ c i j. hidden_of before c i j || (hidden_of after c i j || moved c i j))) ≡ slots_needed also (desk_in before slots) (desk_in after slots)
   unfolding slots_needed
   needs_counted =
       let b = before_bounded before after still in
       let a = hidden_bounded after in
-      let m = moved_bounded after moved in
       regrouped after
-      (λ c i j. hidden_of before c i j || (hidden_of after c i j || moved_patch after moved c i j))
+      (λ c i j. hidden_of before c i j || (hidden_of after c i j || moved c i j))
       (λ c i j. hidden_of before c i j || (hidden_of after c i j || also c))
       (record {
         closed = λ c i j h. or_from _ _ (b.closed c i j h) (or_from _ _ (a.closed c i j h) (m.closed c i j h));
         outside = λ c i j h o. or_from _ _ (b.outside c i j h o) (or_from _ _ (a.outside c i j h o) (m.outside c i j h o));
       })
-      (λ c i j h hi hj. ap (λ t. hidden_of before c i j || (hidden_of after c i j || t)) (moved_inside after moved c i j h hi hj ∙ sym (same c h)))
+      (λ c i j h hi hj. ap (λ t. hidden_of before c i j || (hidden_of after c i j || t)) (same c i j h hi hj))
 
 pub plan_laws_lem : PlanLaws
 plan_laws_lem = record {
   hidden = hidden_counted;
-  moved = λ before after client slots still. needs_counted before after client slots (λ c. eqb client c) still (λ c h. refl);
+  moved = λ before after client slots still.
+      needs_counted before after slots (λ c. eqb client c) still (own_patch after client) (own_bounded after client) (own_inside after client);
   unmoved = λ before after slots still.
-      needs_counted before after 255 slots (λ _. false) still (λ c h. sym (ne_eqb 255 c (λ e. let l = open_low after c h in omega arith)));
+      needs_counted before after slots (λ _. false) still (λ _ _ _. false) (record { closed = λ _ _ _ _. refl; outside = λ _ _ _ _ _. refl }) (λ _ _ _ _ _ _. refl);
 }

@@ -1,9 +1,8 @@
 pub mod Turns
 pub mod Sights
 pub mod Orders
+pub mod Rotations
 pub mod Sifts
 pub mod Patches
-pub mod Counts
-pub mod Supplies
 pub mod Regroup
 pub mod Lawful

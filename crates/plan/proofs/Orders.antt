@@ -4,17 +4,21 @@ use Rattle.std.proofs.lemmas.List.{get_or-set_same, get_or-set_other, append-nil
 use Rattle.std.proofs.lemmas.Bool.{and_parts, and_from, or_parts, or_left, not-true, eqb-true, eqb-false, true≢false}
 use Rattle.std.proofs.lemmas.Bool.Decides.{nat_tests}
 use Rattle.paper.specs.Layers.{Layer, keep, only, without, alter, at_corner}
-use Rattle.plan.specs.declared.frame.Frame.{Frame}
+use Rattle.raster.specs.declared.rectangle.Rectangle.{Rectangle}
 use Rattle.plan.specs.Frames.{no_frame, has, distinct}
 use Rattle.plan.specs.Plans.{outline, outlines}
-use Rattle.plan.specs.Arranged.{others, cornered}
+use Rattle.plan.specs.Arranged.{cornered}
+
+-- the clients without one
+abbrev pub others : ℕ → List ℕ → List ℕ
+others c cs = filter (λ k. not (eqb c k)) cs
 
 pub flip : (a b : ℕ) → eqb a b ≡ eqb b a
 flip a b = grind (arith, nat_tests)
 
 -- ── Layers of sifted clients ──
 
-pub keep_outlines : (t : ℕ → Bool) (cs : List ℕ) (fs : List Frame) → keep t (outlines cs fs) ≡ outlines (filter t cs) fs
+pub keep_outlines : (t : ℕ → Bool) (cs : List ℕ) (fs : List Rectangle) → keep t (outlines cs fs) ≡ outlines (filter t cs) fs
 keep_outlines t [] fs = refl
 keep_outlines t (c ∷ cs) fs = go (keep_outlines t cs fs) (t c)
   where
@@ -23,7 +27,7 @@ keep_outlines t (c ∷ cs) fs = go (keep_outlines t cs fs) (t c)
     go ih true = ap (λ ls. outline c (get_or fs c no_frame) ∷ ls) ih
     go ih false = ih
 
-pub outlines-++ : (cs ds : List ℕ) (fs : List Frame) → outlines (cs ++ ds) fs ≡ outlines cs fs ++ outlines ds fs
+pub outlines-++ : (cs ds : List ℕ) (fs : List Rectangle) → outlines (cs ++ ds) fs ≡ outlines cs fs ++ outlines ds fs
 outlines-++ [] ds fs = refl
 outlines-++ (c ∷ cs) ds fs = ap (λ ls. outline c (get_or fs c no_frame) ∷ ls) (outlines-++ cs ds fs)
 
@@ -121,7 +125,7 @@ own_one c (d ∷ cs) h = let q = and_parts (not (has d cs)) (distinct cs) h in g
 
 -- ── Layers of a client and of the others ──
 
-module _ (c : ℕ) (cs : List ℕ) (fs : List Frame) where
+module _ (c : ℕ) (cs : List ℕ) (fs : List Rectangle) where
   pub without_outlines : without c (outlines cs fs) ≡ outlines (others c cs) fs
   without_outlines = keep_outlines _ cs fs
 
@@ -185,23 +189,6 @@ length_others c (d ∷ cs) h = let q = and_parts (not (has d cs)) (distinct cs) 
     go k ih true e = let q = ap length (others_all c cs (ap (λ x. has x cs) (eqb-true c d e) ∙ not-true _ k)) in omega arith
     go k ih false e = omega arith
 
-pub others_fewer : (c : ℕ) (cs : List ℕ) → has c cs ≡ true → suc (length (others c cs)) ≤ length cs
-others_fewer c [] h = absurd (true≢false (sym h))
-others_fewer c (d ∷ cs) h = go (others_fewer c cs) (others_most c cs) (eqb d c) refl h
-  where
-    others_most : (c : ℕ) (cs : List ℕ) → length (others c cs) ≤ length cs
-    others_most c [] = omega arith
-    others_most c (d ∷ cs) = by (not (eqb c d)) (others_most c cs)
-      where
-        by : (b : Bool) → length (others c cs) ≤ length cs → length (cond b (d ∷ others c cs) (others c cs)) ≤ suc (length cs)
-        by true h = omega arith
-        by false h = omega arith
-
-    go : (has c cs ≡ true → suc (length (others c cs)) ≤ length cs) → length (others c cs) ≤ length cs → (b : Bool) → eqb d c ≡ b → (b || has c cs) ≡ true
-        → suc (length (others c (d ∷ cs))) ≤ suc (length cs)
-    go ih m true e h = rw (flip c d ∙ e) (omega arith)
-    go ih m false e h = rw (flip c d ∙ e) (omega (arith, ih h))
-
 -- numbers below n, none twice, are at most n
 pub room_for : (n : ℕ) (cs : List ℕ) → distinct cs ≡ true → ((d : ℕ) → has d cs ≡ true → d < n) → length cs ≤ n
 room_for zero [] h low = omega arith
@@ -214,29 +201,29 @@ room_for (suc n) cs h low =
 
 -- ── A layer moved or opened ──
 
-outlines_set : (c : ℕ) (cs : List ℕ) (fs : List Frame) (g : Frame) → has c cs ≡ false → outlines cs (set fs c g) ≡ outlines cs fs
+outlines_set : (c : ℕ) (cs : List ℕ) (fs : List Rectangle) (g : Rectangle) → has c cs ≡ false → outlines cs (set fs c g) ≡ outlines cs fs
 outlines_set c [] fs g h = refl
 outlines_set c (d ∷ cs) fs g h =
     let q = or_parts (eqb d c) (has c cs) h in
     ap₂ (λ f ls. outline d f ∷ ls) (get_or-set_other fs c d g no_frame (eqb-false d c q.0)) (outlines_set c cs fs g q.1)
 
-pub outlines_opened : (c : ℕ) (cs : List ℕ) (fs : List Frame) (g : Frame) → has c cs ≡ false → c < length fs → outlines (cs ++ (c ∷ [])) (set fs c g) ≡ outlines cs fs ++ (outline c g ∷ [])
+pub outlines_opened : (c : ℕ) (cs : List ℕ) (fs : List Rectangle) (g : Rectangle) → has c cs ≡ false → c < length fs → outlines (cs ++ (c ∷ [])) (set fs c g) ≡ outlines cs fs ++ (outline c g ∷ [])
 outlines_opened c cs fs g h l =
     outlines-++ cs (c ∷ []) (set fs c g) ∙ ap₂ (λ ls f. ls ++ (outline c f ∷ [])) (outlines_set c cs fs g h) (get_or-set_same fs c g no_frame l)
 
-pub alter_none : (c : ℕ) (f : Layer → Layer) (cs : List ℕ) (fs : List Frame) → has c cs ≡ false → outlines cs fs ≡ alter c f (outlines cs fs)
+pub alter_none : (c : ℕ) (f : Layer → Layer) (cs : List ℕ) (fs : List Rectangle) → has c cs ≡ false → outlines cs fs ≡ alter c f (outlines cs fs)
 alter_none c f [] fs h = refl
 alter_none c f (d ∷ cs) fs h =
     let q = or_parts (eqb d c) (has c cs) h in
     ap (λ ls. outline d (get_or fs d no_frame) ∷ ls) (alter_none c f cs fs q.1)
     ∙ sym (ap (λ b. cond b (f (outline d (get_or fs d no_frame)) ∷ outlines cs fs) (outline d (get_or fs d no_frame) ∷ alter c f (outlines cs fs))) q.0)
 
-pub outlines_moved : (c : ℕ) (x y : ℤ) (cs : List ℕ) (fs : List Frame) → distinct cs ≡ true → c < length fs
+pub outlines_moved : (c : ℕ) (x y : ℤ) (cs : List ℕ) (fs : List Rectangle) → distinct cs ≡ true → c < length fs
     → outlines cs (set fs c (cornered x y (get_or fs c no_frame))) ≡ alter c (at_corner x y) (outlines cs fs)
 outlines_moved c x y [] fs h l = refl
 outlines_moved c x y (d ∷ cs) fs h l = let q = and_parts (not (has d cs)) (distinct cs) h in go q.0 (outlines_moved c x y cs fs q.1 l) (eqb d c) refl
   where
-    gs : List Frame
+    gs : List Rectangle
     gs = set fs c (cornered x y (get_or fs c no_frame))
 
     go : not (has d cs) ≡ true → outlines cs gs ≡ alter c (at_corner x y) (outlines cs fs) → (b : Bool) → eqb d c ≡ b

@@ -1,17 +1,18 @@
 -- A patch is hidden exactly if its rectangle is not on the screen as a whole, or meets that of a higher layer.
-use Rattle.std.proofs.Common.{◌≡◌, ℕ, zero, suc, ◌+◌, ◌-◌, ◌*◌, ◌<◌, ◌≤◌, min, Bool, true, false, cond, not, ◌&&◌, ◌||◌, eqb, ltb, ◌⊎◌, List, [], ◌∷◌, get_or, ℤ, pos, ◌+ℤ◌, ◌-ℤ◌, nat_abs, sym, refl, ap, ◌∙◌, inl, inr, ⊎_elim, arith}
+use Rattle.std.proofs.Common.{◌≡◌, ℕ, zero, suc, ◌+◌, ◌-◌, ◌*◌, ◌<◌, ◌≤◌, min, Bool, true, false, cond, not, ◌&&◌, ◌||◌, eqb, ltb, ◌⊎◌, List, [], ◌∷◌, get_or, ℤ, pos, ◌+ℤ◌, ◌-ℤ◌, nat_abs, sym, refl, ap, ◌∙◌, inl, inr, ⊎_elim, arith, w16, SFits}
 use lib.Signed.{le_z}
 use Rattle.std.proofs.lemmas.Int.{ints}
-use Rattle.std.proofs.lemmas.Bool.{and_parts, and_from, and_cases, and_left, and_right, le-ltb, or_left, or_right, or_cases, or_parts, eqb-true, not-true, not_from_false, cases_Bool, cases_lt, lt-ltb, ltb-true, false≢true, true≢false}
+use Rattle.std.proofs.lemmas.Bool.{and_parts, and_from, and_cases, and_left, and_right, le-ltb, or_left, or_right, or_cases, or_parts, eqb-true, not-true, not_from_false, cases_Bool, cases_lt, lt-ltb, ltb-true, false≢true}
 use Rattle.std.proofs.lemmas.Bool.Decides.{nat_tests}
 use Rattle.raster.specs.Blt.{holds, inside}
 use Rattle.raster.specs.Calls.{any_below}
 use Rattle.raster.specs.declared.size.Size.{Size}
 use Rattle.paper.specs.Layers.{Layer, covers, covered}
 use Rattle.paper.specs.Slots.{obscured, hidden, hidden_in}
-use Rattle.plan.specs.declared.frame.Frame.{Frame}
+use Rattle.raster.specs.declared.rectangle.Rectangle.{Rectangle}
 use Rattle.plan.specs.Frames.{no_frame, has}
 use Rattle.plan.specs.Plans.{outline, outlines, above}
+use Rattle.plan.proofs.Turns.{summed, wide_sum}
 use Rattle.plan.specs.Areas.{reaches, meets, met, within, on_screen, hidden_area}
 
 -- ── One axis: u + a are the pixels of a patch at u, of w pixels, of a layer at x ──
@@ -59,7 +60,7 @@ same_bool false false f g = refl
 
 -- ── Both axes ──
 
-module _ (f : Frame) (u v : ℕ) where
+module _ (f : Rectangle) (u v : ℕ) where
   abbrev x : ℕ → ℤ
   x k = f.x +ℤ pos k
 
@@ -164,7 +165,7 @@ module _ (f : Frame) (u v : ℕ) where
 
 -- ── The patch in column i and row j ──
 
-module _ (s : Size) (higher : List Layer) (c : ℕ) (f : Frame) (i j : ℕ) where
+module _ (s : Size) (higher : List Layer) (c : ℕ) (f : Rectangle) (i j : ℕ) where
   area_hidden : hidden_area s higher f (16 * i) (16 * j) ≡ true → hidden s higher (outline c f) i j ≡ true
   unfolding hidden
   area_hidden e =
@@ -187,7 +188,7 @@ module _ (s : Size) (higher : List Layer) (c : ℕ) (f : Frame) (i j : ℕ) wher
 
 -- ── Among the layers of some clients ──
 
-module _ (s : Size) (fs : List Frame) (c i j : ℕ) where
+module _ (s : Size) (fs : List Rectangle) (c i j : ℕ) where
   pub hidden_open : (cs : List ℕ) → has c cs ≡ true
       → hidden_in s (outlines cs fs) c i j ≡ hidden s (above c (outlines cs fs)) (outline c (get_or fs c no_frame)) i j
   hidden_open [] h = absurd (false≢true h)
@@ -212,7 +213,7 @@ module _ (s : Size) (fs : List Frame) (c i j : ℕ) where
 
 -- ── An area, as it is computed ──
 
-pub no_area : (s : Size) (higher : List Layer) (f g : Frame) (u v : ℕ) → g ≡ f → (g.w ≤ u) ⊎ (g.h ≤ v) → false ≡ hidden_area s higher f u v
+pub no_area : (s : Size) (higher : List Layer) (f g : Rectangle) (u v : ℕ) → g ≡ f → (g.w ≤ u) ⊎ (g.h ≤ v) → false ≡ hidden_area s higher f u v
 unfolding hidden_area
 no_area s higher f g u v e h =
     ap (λ (b : Bool). b && (not (on_screen s (g.x +ℤ pos u) (g.y +ℤ pos v) (g.x +ℤ pos (min (u + 16) g.w)) (g.y +ℤ pos (min (v + 16) g.h)))
@@ -220,21 +221,32 @@ no_area s higher f g u v e h =
     (⊎_elim (λ (l : g.w ≤ u). sym (and_left _ _ (le-ltb u g.w l))) (λ (l : g.h ≤ v). sym (and_right _ _ (le-ltb v g.h l))) h)
     ∙ ap (λ g. hidden_area s higher g u v) e
 
-pub area_is : (s : Size) (higher : List Layer) (f g : Frame) (u v : ℕ) → g ≡ f → u < g.w → v < g.h → (left top right bottom : ℤ)
-    → left ≡ g.x +ℤ pos u → top ≡ g.y +ℤ pos v → right ≡ g.x +ℤ pos (min (u + 16) g.w) → bottom ≡ g.y +ℤ pos (min (v + 16) g.h)
-    → (not (on_screen s left top right bottom) || met higher left top right bottom) ≡ hidden_area s higher f u v
-unfolding hidden_area
-area_is s higher f g u v e hu hv left top right bottom el et er eb =
-    (λ i. not (on_screen s (el i) (et i) (er i) (eb i)) || met higher (el i) (et i) (er i) (eb i))
-    ∙ ap (λ (b : Bool). b && (not (on_screen s (g.x +ℤ pos u) (g.y +ℤ pos v) (g.x +ℤ pos (min (u + 16) g.w)) (g.y +ℤ pos (min (v + 16) g.h)))
-    || met higher (g.x +ℤ pos u) (g.y +ℤ pos v) (g.x +ℤ pos (min (u + 16) g.w)) (g.y +ℤ pos (min (v + 16) g.h))))
-    (sym (and_from _ _ (lt-ltb u g.w hu) (lt-ltb v g.h hv)))
-    ∙ ap (λ g. hidden_area s higher g u v) e
+-- the patch's area, with its ends as they are summed: it is hidden if it is not on the screen as a whole, and otherwise if the layers above meet it
+module _ (s : Size) (higher : List Layer) (f g : Rectangle) (u v r b : ℕ) (e : g ≡ f) (fx : SFits w16 g.x) (fy : SFits w16 g.y) (narrow : f.w ≤ 320) (short : f.h ≤ 240)
+    (hu : u < g.w) (hv : v < g.h) (er : r ≡ min (u + 16) g.w) (eb : b ≡ min (v + 16) g.h) where
+  abbrev on : Bool
+  on = on_screen s (summed g.x u) (summed g.y v) (summed g.x r) (summed g.y b)
 
-pub either_first : (on over : Bool) → on ≡ false → not on ≡ (not on || over)
-either_first true over e = absurd (true≢false e)
-either_first false over e = refl
+  abbrev over : Bool
+  over = met higher (summed g.x u) (summed g.y v) (summed g.x r) (summed g.y b)
 
-pub either_second : (on over : Bool) → on ≡ true → over ≡ (not on || over)
-either_second true over e = refl
-either_second false over e = absurd (false≢true e)
+  either : (not on || over) ≡ hidden_area s higher f u v
+  unfolding hidden_area
+  either =
+      let nw = ap (λ f. f.w) e in
+      let nh = ap (λ f. f.h) e in
+      let left = wide_sum g.x u fx (omega arith) in
+      let top = wide_sum g.y v fy (omega arith) in
+      let across = wide_sum g.x r fx (omega arith) ∙ ap (λ k. g.x +ℤ pos k) er in
+      let down = wide_sum g.y b fy (omega arith) ∙ ap (λ k. g.y +ℤ pos k) eb in
+      (λ i. not (on_screen s (left i) (top i) (across i) (down i)) || met higher (left i) (top i) (across i) (down i))
+      ∙ ap (λ (b : Bool). b && (not (on_screen s (g.x +ℤ pos u) (g.y +ℤ pos v) (g.x +ℤ pos (min (u + 16) g.w)) (g.y +ℤ pos (min (v + 16) g.h)))
+      || met higher (g.x +ℤ pos u) (g.y +ℤ pos v) (g.x +ℤ pos (min (u + 16) g.w)) (g.y +ℤ pos (min (v + 16) g.h))))
+      (sym (and_from _ _ (lt-ltb u g.w hu) (lt-ltb v g.h hv)))
+      ∙ ap (λ g. hidden_area s higher g u v) e
+
+  pub off_hidden : (t : Bool) → t ≡ on → t ≡ false → not t ≡ hidden_area s higher f u v
+  off_hidden t q h = ap not h ∙ ap (λ t. not t || over) (sym h ∙ q) ∙ either
+
+  pub over_hidden : (t w : Bool) → t ≡ on → t ≡ true → w ≡ over → w ≡ hidden_area s higher f u v
+  over_hidden t w q h k = k ∙ ap (λ t. not t || over) (sym h ∙ q) ∙ either

@@ -5,10 +5,10 @@ use Rattle.std.proofs.lemmas.Bool.{and_parts, cases_lt, cond-true, cond-false, e
 use Rattle.raster.specs.Rules.{total}
 use Rattle.raster.proofs.Digits.{total_alike}
 use Rattle.paper.specs.Slots.{patches_along, patches_in, count_patches}
-use Rattle.plan.specs.declared.frame.Frame.{Frame}
+use Rattle.raster.specs.declared.rectangle.Rectangle.{Rectangle}
 use Rattle.plan.specs.Frames.{no_frame, has, distinct}
 use Rattle.plan.specs.Plans.{outline, outlines}
-use Rattle.plan.specs.Allots.{counted, passing}
+use Rattle.plan.specs.Counts.{counted, passing}
 
 -- a sum that stays a sum
 unfoldable pub tally : (ℕ → ℕ) → ℕ → ℕ
@@ -89,7 +89,7 @@ either_share true false n h = sym (add-zero n)
 either_share false b n h = sym (zero-add (cond b n 0))
 
 -- the shares of the clients of a list, none there twice
-pub tally_clients : (test : ℕ → ℕ → ℕ → Bool) (fs : List Frame) (n : ℕ) (cs : List ℕ) → distinct cs ≡ true → ((d : ℕ) → has d cs ≡ true → d < n)
+pub tally_clients : (test : ℕ → ℕ → ℕ → Bool) (fs : List Rectangle) (n : ℕ) (cs : List ℕ) → distinct cs ≡ true → ((d : ℕ) → has d cs ≡ true → d < n)
     → tally (λ c. cond (has c cs) (patches_in (test c) (outline c (get_or fs c no_frame))) 0) n ≡ count_patches test (outlines cs fs)
 tally_clients test fs n [] h low = tally_none (λ c. 0) n (λ k l. refl)
 tally_clients test fs n (d ∷ cs) h low =
@@ -136,7 +136,7 @@ passing_parts test =
     λ x. one (test (part_client c j i hj hi x) (part_column c j i hj hi x) (part_row c j i hj hi x)))))
 
 -- the patches of a layer of w by h, where no other passes the test
-pub layer_parts : (test other : ℕ → ℕ → Bool) (c : ℕ) (f : Frame) → f.w ≤ 320 → f.h ≤ 240
+pub layer_parts : (test other : ℕ → ℕ → Bool) (c : ℕ) (f : Rectangle) → f.w ≤ 320 → f.h ≤ 240
     → ((i j : ℕ) → (f.w ≤ 16 * i) ⊎ (f.h ≤ 16 * j) → test i j ≡ false)
     → ((i j : ℕ) → 16 * i < f.w → 16 * j < f.h → test i j ≡ other i j)
     → tally (λ j. tally (λ i. one (test i j)) 20) 15 ≡ patches_in other (outline c f)

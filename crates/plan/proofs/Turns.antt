@@ -1,29 +1,49 @@
--- Loops over the clients of an arrangement: what is left of them at a turn, and at the end.
-use Rattle.std.proofs.Common.{◌≡◌, ℕ, ◌+◌, ◌<◌, ◌≤◌, Bool, true, false, cond, ◌&&◌, ◌||◌, List, [], ◌∷◌, length, get_or, take, drop, ℤ, pos, ◌+ℤ◌, Some, None, Option, refl, ap, ◌∙◌, ap₂, arith, w16, w32, SFits, to_z, of_z}
-use Rattle.std.proofs.lemmas.List.{at_drop_more, at_drop_all, length-take-le, get_or-take}
+-- The clients above one and the topmost client, areas of one place, and sums in 32 bits.
+use Rattle.std.proofs.Common.{◌≡◌, ℕ, zero, suc, ◌+◌, ◌<◌, Bool, true, false, cond, ◌&&◌, ◌||◌, eqb, List, [], ◌∷◌, length, get_or, drop, find, reverse, ℤ, pos, ◌+ℤ◌, Some, None, Option, sym, refl, ap, ◌∙◌, ap₂, add-one, arith, w16, w32, SFits, to_z, of_z}
+use Rattle.std.specs.List.{position, list_any}
+use Rattle.std.specs.Option.{option_or}
+use Rattle.std.proofs.lemmas.List.{reverse-append}
+use Rattle.std.proofs.lemmas.List.Folds.{find-append}
+use Rattle.std.proofs.lemmas.List.Quantifiers.{position-Some}
 use Rattle.std.proofs.lemmas.Int.{ints}
+use Rattle.std.proofs.lemmas.Bool.{or_parts}
 use Rattle.std.proofs.lemmas.Bool.Decides.{nat_tests}
 use Rattle.raster.specs.Blt.{holds, in_rectangle}
 use Rattle.paper.specs.Layers.{Layer, or_else, covers, covered, topmost}
 use Rattle.paper.specs.Desk.{client_if}
-use Rattle.plan.specs.declared.frame.Frame.{Frame}
-use Rattle.plan.specs.Frames.{no_frame}
-use Rattle.plan.specs.Plans.{outline, outlines}
+use Rattle.raster.specs.declared.rectangle.Rectangle.{Rectangle}
+use Rattle.plan.specs.Frames.{no_frame, has}
+use Rattle.plan.specs.Plans.{outline, outlines, above}
 use Rattle.plan.specs.Areas.{reaches, meets, met}
 
--- ── Any function of what is left ──
+-- ── The clients above one ──
 
-module _ {Y : Type 0} (F : List ℕ → Y) (n i : ℕ) (xs : List ℕ) (long : n ≤ length xs) where
-  pub turn : i < n → F (drop i (take n xs)) ≡ F (get_or xs i 0 ∷ drop (i + 1) (take n xs))
-  turn k =
-      let e = length-take-le n xs long in
-      at_drop_more F (take n xs) i 0 (omega arith) ∙ ap (λ d. F (d ∷ drop (i + 1) (take n xs))) (get_or-take n xs i 0 k)
+pub above_open : (c i : ℕ) (cs : List ℕ) (fs : List Rectangle) → Some i ≡ position (λ d. eqb d c) cs → outlines (drop (i + 1) cs) fs ≡ above c (outlines cs fs)
+above_open c i cs fs e = let q = position-Some (λ d. eqb d c) cs i 0 (sym e) in ap (λ k. outlines (drop k cs) fs) (add-one i) ∙ go i cs q.0 q.1 q.2
+  where
+    go : (i : ℕ) (cs : List ℕ) → i < length cs → eqb (get_or cs i 0) c ≡ true → ((k : ℕ) → k < i → eqb (get_or cs k 0) c ≡ false)
+        → outlines (drop (suc i) cs) fs ≡ above c (outlines cs fs)
+    go i [] l e h = absurd (omega arith)
+    go zero (d ∷ cs) l e h = sym (ap (λ b. cond b (outlines cs fs) (above c (outlines cs fs))) e)
+    go (suc i) (d ∷ cs) l e h = go i cs (omega arith) e (λ k m. h (suc k) (omega arith)) ∙ sym (ap (λ b. cond b (outlines cs fs) (above c (outlines cs fs))) (h 0 (omega arith)))
 
-  pub turned : n ≤ i → F (drop i (take n xs)) ≡ F []
-  turned k = let e = length-take-le n xs long in at_drop_all F (take n xs) i (omega arith)
+pub above_closed : (c : ℕ) (cs : List ℕ) (fs : List Rectangle) → has c cs ≡ false → [] ≡ above c (outlines cs fs)
+above_closed c [] fs h = refl
+above_closed c (d ∷ cs) fs h =
+    let q = or_parts (eqb d c) (has c cs) h in
+    above_closed c cs fs q.1 ∙ sym (ap (λ b. cond b (outlines cs fs) (above c (outlines cs fs))) q.0)
 
--- ── One place is an area ──
+-- ── Areas ──
 
+module _ (fs : List Rectangle) (left top right bottom : ℤ) where
+  abbrev pub meets_frame : ℕ → Bool
+  meets_frame c = meets (get_or fs c no_frame).x (get_or fs c no_frame).y (get_or fs c no_frame).w (get_or fs c no_frame).h left top right bottom
+
+  pub met_any : (cs : List ℕ) → list_any meets_frame cs ≡ met (outlines cs fs) left top right bottom
+  met_any [] = refl
+  met_any (c ∷ cs) = ap (λ b. meets_frame c || b) (met_any cs)
+
+-- One place is an area.
 pub meets_place : (x y : ℤ) (w h : ℕ) (a b : ℤ) → meets x y w h a b (a +ℤ pos 1) (b +ℤ pos 1) ≡ in_rectangle x y w h a b
 meets_place x y w h a b = ap₂ ◌&&◌ (one x w a) (one y h b)
   where
@@ -36,18 +56,21 @@ met_place (l ∷ ls) a b = ap₂ ◌||◌ (meets_place l.x l.y l.pixels.width l.
 
 -- ── The topmost client ──
 
--- the topmost of some clients at a place, or else another
-abbrev pub topmost_or : Option ℕ → List Frame → (a b : ℤ) → List ℕ → Option ℕ
-topmost_or o fs a b cs = or_else (client_if (topmost (outlines cs fs) a b)) o
-
-pub topmost_turn : (o : Option ℕ) (fs : List Frame) (a b : ℤ) (c : ℕ) (cs : List ℕ)
-    → topmost_or o fs a b (c ∷ cs) ≡ topmost_or (cond (covers (outline c (get_or fs c no_frame)) a b) (Some c) o) fs a b cs
-topmost_turn o fs a b c cs = go (topmost (outlines cs fs) a b) (covers (outline c (get_or fs c no_frame)) a b)
+topmost_found : (fs : List Rectangle) (a b : ℤ) (cs : List ℕ) → find (λ c. covers (outline c (get_or fs c no_frame)) a b) (reverse cs) ≡ client_if (topmost (outlines cs fs) a b)
+topmost_found fs a b [] = refl
+topmost_found fs a b (c ∷ cs) =
+    let test : ℕ → Bool = λ c. covers (outline c (get_or fs c no_frame)) a b in
+    ap (find test) (reverse-append (c ∷ []) cs) ∙ find-append test (reverse cs) (c ∷ []) ∙ ap (λ o. option_or o (cond (test c) (Some c) None)) (topmost_found fs a b cs)
+    ∙ go (topmost (outlines cs fs) a b) (test c)
   where
-    go : (t : Option Layer) (k : Bool) → or_else (client_if (or_else t (cond k (Some (outline c (get_or fs c no_frame))) None))) o ≡ or_else (client_if t) (cond k (Some c) o)
+    go : (t : Option Layer) (k : Bool) → option_or (client_if t) (cond k (Some c) None) ≡ client_if (or_else t (cond k (Some (outline c (get_or fs c no_frame))) None))
     go (Some l) k = refl
     go None true = refl
     go None false = refl
+
+pub topmost_met : (fs : List Rectangle) (a b : ℤ) (cs : List ℕ) → find (meets_frame fs a b (a +ℤ pos 1) (b +ℤ pos 1)) (reverse cs) ≡ client_if (topmost (outlines cs fs) a b)
+topmost_met fs a b cs =
+    (λ i. find (λ c. meets_place (get_or fs c no_frame).x (get_or fs c no_frame).y (get_or fs c no_frame).w (get_or fs c no_frame).h a b i) (reverse cs)) ∙ topmost_found fs a b cs
 
 -- ── Sums in 32 bits of numbers in 16 ──
 

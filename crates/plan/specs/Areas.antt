@@ -2,7 +2,7 @@
 use Rattle.std.specs.Prelude.{ℕ, ◌+◌, min, Bool, false, not, ◌&&◌, ◌||◌, List, [], ◌∷◌, ℤ, pos, ◌+ℤ◌, int_le, int_lt, nat_lt}
 use Rattle.raster.specs.declared.size.Size.{Size}
 use Rattle.paper.specs.Layers.{Layer}
-use Rattle.plan.specs.declared.frame.Frame.{Frame}
+use Rattle.raster.specs.declared.rectangle.Rectangle.{Rectangle}
 
 -- One of the n numbers from `from` on lies from a up to b, where a < b.
 abbrev pub reaches : (from : ℤ) (n : ℕ) (a b : ℤ) → Bool
@@ -27,7 +27,7 @@ on_screen s left top right bottom = within left right s.width && within top bott
 
 -- A patch at the pixel (u, v) of a layer has a pixel, and, cut to the layer, it is not on the screen as a whole or has a place that a higher
 -- layer has too.
-unfoldable pub hidden_area : (screen : Size) (higher : List Layer) → Frame → (u v : ℕ) → Bool
+unfoldable pub hidden_area : (screen : Size) (higher : List Layer) → Rectangle → (u v : ℕ) → Bool
 hidden_area screen higher f u v =
     (nat_lt u f.w && nat_lt v f.h)
     && (not (on_screen screen (f.x +ℤ pos u) (f.y +ℤ pos v) (f.x +ℤ pos (min (u + 16) f.w)) (f.y +ℤ pos (min (v + 16) f.h)))

@@ -1,14 +1,10 @@
 -- What becomes of an arrangement when layers are opened, closed, moved or put in another order.
-use Rattle.std.specs.Prelude.{◌≡◌, ℕ, Bool, not, ◌&&◌, List, ℤ, filter, ◌==◌, ◌≢◌, nat_lt}
+use Rattle.std.specs.Prelude.{◌≡◌, ℕ, Bool, not, ◌&&◌, List, ℤ, ◌≢◌, nat_lt}
 use Rattle.paper.specs.Layers.{Layer}
-use Rattle.plan.specs.declared.frame.Frame.{Frame}
+use Rattle.raster.specs.declared.rectangle.Rectangle.{Rectangle}
 use Rattle.plan.specs.declared.plan.Plan.{Plan}
 use Rattle.plan.specs.Frames.{has}
 use Rattle.plan.specs.Plans.{listed, layers_in, frame_in}
-
--- The clients without one.
-abbrev pub others : ℕ → List ℕ → List ℕ
-others c cs = filter (λ k. not (c == k)) cs
 
 -- The arrangement r has the layers `after` on the screen of p. The clients that `opens` picks are open.
 pub record Arranged (p r : Plan) (after : List Layer) (opens : ℕ → Bool) : Type 0 where
@@ -24,9 +20,9 @@ abbrev pub OtherFrames : (client : ℕ) (p r : Plan) → Type 0
 OtherFrames c p r = (d : ℕ) → (d ≢ c) → frame_in r d ≡ frame_in p d
 
 -- A frame at another corner.
-abbrev pub cornered : ℤ → ℤ → Frame → Frame
+abbrev pub cornered : ℤ → ℤ → Rectangle → Rectangle
 cornered x y f = record { x = x; y = y; w = f.w; h = f.h }
 
 -- A layer of a client can be opened: there is such a client, its layer is not open, and the frame is not too large.
-abbrev pub can_open : Plan → ℕ → Frame → Bool
+abbrev pub can_open : Plan → ℕ → Rectangle → Bool
 can_open p c f = nat_lt c 8 && (not (has c (listed p)) && (nat_lt f.w 321 && nat_lt f.h 241))

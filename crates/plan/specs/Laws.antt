@@ -1,11 +1,11 @@
 -- Patches counted by their numbers are those that a desk on paper counts.
-use Rattle.std.specs.Prelude.{◌≡◌, ℕ, true, false, nat_eq}
+use Rattle.std.specs.Prelude.{◌≡◌, ℕ, true, false, Some, None, nat_eq}
 use Rattle.paper.specs.Layers.{Desk}
 use Rattle.paper.specs.Slots.{hidden_count, slots_needed}
 use Rattle.plan.specs.declared.plan.Plan.{Plan}
 use Rattle.plan.specs.Frames.{has}
 use Rattle.plan.specs.Plans.{listed, layers_in, frame_in, hidden_patch, needs}
-use Rattle.plan.specs.Allots.{passing}
+use Rattle.plan.specs.Counts.{passing}
 
 -- An arrangement as a desk on paper, of which every pixel is 0.
 abbrev pub desk_in : Plan → (slots : ℕ) → Desk
@@ -20,10 +20,10 @@ pub record StillOpen (before after : Plan) (c : ℕ) : Type 0 where
 abbrev pub AllStillOpen : (before after : Plan) → Type 0
 AllStillOpen before after = (c : ℕ) → has c (listed before) ≡ true → StillOpen before after c
 
--- As many patches are hidden as the desk counts, and as many need a slot: where a client's layer is moved, and where none is, since no client has the number 255.
+-- As many patches are hidden as the desk counts, and as many need a slot: where a client's layer is moved, and where none is.
 pub record PlanLaws : Type 0 where
   pub hidden : (p : Plan) (slots : ℕ) → passing (hidden_patch p) ≡ hidden_count (desk_in p slots)
   pub moved : (before after : Plan) (client slots : ℕ) → AllStillOpen before after
-      → passing (needs before after client) ≡ slots_needed (λ c. nat_eq client c) (desk_in before slots) (desk_in after slots)
+      → passing (needs before after (Some client)) ≡ slots_needed (λ c. nat_eq client c) (desk_in before slots) (desk_in after slots)
   pub unmoved : (before after : Plan) (slots : ℕ) → AllStillOpen before after
-      → passing (needs before after 255) ≡ slots_needed (λ _. false) (desk_in before slots) (desk_in after slots)
+      → passing (needs before after None) ≡ slots_needed (λ _. false) (desk_in before slots) (desk_in after slots)

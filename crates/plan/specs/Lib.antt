@@ -2,5 +2,5 @@ pub mod Frames
 pub mod Plans
 pub mod Areas
 pub mod Arranged
-pub mod Allots
+pub mod Counts
 pub mod Laws

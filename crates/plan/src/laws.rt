@@ -2,8 +2,6 @@
 ghost use Rattle.plan.specs.Laws.{PlanLaws};
 
 /// Patches counted by their numbers are those that a desk on paper counts.
-pub fn plan_laws() -> u8
+pub fn plan_laws()
     ensures { PlanLaws }
-{
-    0
-}
+{}

@@ -1,17 +1,14 @@
-//! Arrangements of layers and tables of slots, in plain numbers.
+//! Arrangements of layers, in plain numbers.
 #![tactic(auto)]
 
+mod area;
 mod arrange;
 mod ask;
-mod frame;
+mod change;
 mod laws;
-mod marks;
 mod plan;
-mod slots;
 mod start;
-mod tables;
 
-pub use frame::Frame;
+pub use change::Change;
 pub use laws::plan_laws;
 pub use plan::Plan;
-pub use slots::Slots;

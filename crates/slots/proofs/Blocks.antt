@@ -1,39 +1,21 @@
 -- The patches that an area meets are in its block.
-use Rattle.std.proofs.Common.{◌≡◌, ℕ, ◌+◌, ◌-◌, ◌*◌, ◌/◌, ◌%◌, ◌<◌, min, true, false, eqb, ℤ, pos, ◌+ℤ◌, ◌-ℤ◌, nat_abs, subst, arith}
-use lib.Signed.{lt_z}
-use Rattle.std.proofs.lemmas.Int.{ints}
+use Rattle.std.proofs.Common.{◌≡◌, ℕ, ◌+◌, ◌-◌, ◌*◌, ◌/◌, ◌%◌, ◌<◌, true, eqb, ℤ, subst, arith}
 use Rattle.std.proofs.lemmas.Bool.{and_parts, eq-eqb}
-use Rattle.std.proofs.lemmas.Bool.Decides.{nat_tests}
-use Rattle.plan.specs.declared.frame.Frame.{Frame}
-use Rattle.plan.specs.Areas.{reaches}
+use Rattle.raster.specs.declared.rectangle.Rectangle.{Rectangle}
 use Rattle.plan.proofs.Patches.{any_of}
 use Rattle.slots.specs.declared.block.Stretch.{Stretch}
-use Rattle.slots.specs.Blocks.{past, in_row, in_block, Reached, InFrame, patch_met}
-
--- how far, as it is computed
-pub far_below : (z : ℤ) (n : ℕ) (x far : ℤ) → far ≡ (z +ℤ pos n) -ℤ x → lt_z far (pos 0) ≡ true → 0 ≡ past z n x
-far_below z n x far e h = grind (arith, ints, nat_tests)
-
-pub far_above : (z : ℤ) (n : ℕ) (x far : ℤ) → far ≡ (z +ℤ pos n) -ℤ x → lt_z far (pos 0) ≡ false → nat_abs far ≡ past z n x
-far_above z n x far e h = grind (arith, ints, nat_tests)
-
--- a stretch of an axis reaches from the first place past the corner to the last
-pub past_first : (x y : ℤ) (n m i : ℕ) → 16 * i < n → reaches y m (x +ℤ pos (16 * i)) (x +ℤ pos (min (16 * i + 16) n)) ≡ true → past y 0 x < 16 * i + 16
-past_first x y n m i h e = grind (arith, ints, nat_tests)
-
-pub past_last : (x y : ℤ) (n m i : ℕ) → 16 * i < n → reaches y m (x +ℤ pos (16 * i)) (x +ℤ pos (min (16 * i + 16) n)) ≡ true → 16 * i < past y m x
-past_last x y n m i h e = grind (arith, ints, nat_tests)
+use Rattle.slots.specs.Blocks.{in_row, in_block, Reached, InFrame, patch_met}
 
 -- a number in a block, by its row and its place in that
 pub block_has : (first columns rows k j i : ℕ) → j < rows → i < columns → k ≡ first + 20 * j + i → in_block first columns rows k ≡ true
 block_has first columns rows k j i hj hi e =
     any_of (λ j. in_row (first + 20 * j) columns k) rows j hj (any_of (λ i. eqb k (first + 20 * j + i)) columns i hi (eq-eqb k (first + 20 * j + i) e))
 
--- the same for corners as they are passed to a call
+-- a stretch, for corners as they are passed to a call
 pub reached_at : (x x' : ℤ) (n : ℕ) (y y' : ℤ) (m : ℕ) (s : Stretch) → x' ≡ x → y' ≡ y → Reached x' n y' m s → Reached x n y m s
 reached_at x x' n y y' m s ex ey h = subst (λ z. Reached z n y m s) ex (subst (λ z. Reached x' n z m s) ey h)
 
-pub near_has : (c : ℕ) (f a : Frame) (across down : Stretch) → Reached f.x f.w a.x a.w across → Reached f.y f.h a.y a.h down
+pub near_has : (c : ℕ) (f a : Rectangle) (across down : Stretch) → Reached f.x f.w a.x a.w across → Reached f.y f.h a.y a.h down
     → (k : ℕ) → k / 300 ≡ c → InFrame f k → patch_met a f k ≡ true → in_block (300 * c + 20 * down.first + across.first) across.count down.count k ≡ true
 near_has c f a across down hx hy k e i m =
     let q = and_parts _ _ m in

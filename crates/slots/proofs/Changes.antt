@@ -1,14 +1,15 @@
 -- A change of one layer is no matter to the patches that neither its frame before nor its frame after meets.
 use Rattle.std.proofs.Common.{◌≡◌, ℕ, ◌+◌, ◌/◌, ◌%◌, ◌<◌, ◌≤◌, min, Bool, true, false, cond, not, ◌&&◌, ◌||◌, eqb, ltb, ◌⊎◌, List, [], ◌∷◌, get_or, ℤ, pos, ◌+ℤ◌, sym, refl, ap, ◌∙◌, ap₂, inl, inr, ⊎_elim, arith}
+use Rattle.std.specs.Prelude.{Some, None, Option, IfSome}
 use Rattle.std.proofs.lemmas.Int.{ints}
 use Rattle.std.proofs.lemmas.Bool.{cases_Bool, cases_eq, cases_lt, both_ways, eqb-true, eq-eqb, and_from, and_left, and_right, le-ltb, or_left, or_right}
 use Rattle.std.proofs.lemmas.Bool.Decides.{nat_tests}
 use Rattle.raster.specs.declared.size.Size.{Size}
 use Rattle.paper.specs.Layers.{Layer, without}
-use Rattle.plan.specs.declared.frame.Frame.{Frame}
+use Rattle.raster.specs.declared.rectangle.Rectangle.{Rectangle}
 use Rattle.plan.specs.declared.plan.Plan.{Plan}
 use Rattle.plan.specs.Frames.{no_frame, has}
-use Rattle.plan.specs.Plans.{listed, layers_in, frame_in, outline, outlines, above, hidden_patch, patch_of, needs}
+use Rattle.plan.specs.Plans.{listed, layers_in, frame_in, outline, outlines, above, hidden_patch, patch_of, moved_patch, needs}
 use Rattle.plan.specs.Areas.{reaches, meets, met, on_screen, hidden_area}
 use Rattle.plan.proofs.Patches.{hidden_at}
 use Rattle.slots.specs.Blocks.{patch_x, patch_y, InFrame, patch_met}
@@ -16,9 +17,13 @@ use Rattle.slots.specs.Changes.{Concerns}
 use Rattle.slots.specs.Walks.{InLayer, Clear}
 use Rattle.plan.proofs.Lawful.{Outside, hidden_bounded}
 
+pub or_twice : (a : Bool) → (a || (a || false)) ≡ a
+or_twice true = refl
+or_twice false = refl
+
 -- ── Layers that meet an area, without one that does not ──
 
-module _ (fs : List Frame) (c : ℕ) (left top right bottom : ℤ) where
+module _ (fs : List Rectangle) (c : ℕ) (left top right bottom : ℤ) where
   abbrev meets_frame : ℕ → Bool
   meets_frame d = meets (get_or fs d no_frame).x (get_or fs d no_frame).y (get_or fs d no_frame).w (get_or fs d no_frame).h left top right bottom
 
@@ -62,7 +67,7 @@ module _ (fs : List Frame) (c : ℕ) (left top right bottom : ℤ) where
 -- ── One patch ──
 
 -- an area that the same higher layers meet is hidden alike
-area_alike : (s : Size) (higher lower : List Layer) (f : Frame) (u v : ℕ)
+area_alike : (s : Size) (higher lower : List Layer) (f : Rectangle) (u v : ℕ)
     → met higher (f.x +ℤ pos u) (f.y +ℤ pos v) (f.x +ℤ pos (min (u + 16) f.w)) (f.y +ℤ pos (min (v + 16) f.h))
     ≡ met lower (f.x +ℤ pos u) (f.y +ℤ pos v) (f.x +ℤ pos (min (u + 16) f.w)) (f.y +ℤ pos (min (v + 16) f.h))
     → hidden_area s higher f u v ≡ hidden_area s lower f u v
@@ -75,10 +80,10 @@ area_alike s higher lower f u v e =
 axis_own : (x : ℤ) (n u : ℕ) → u < n → reaches x n (x +ℤ pos u) (x +ℤ pos (min (u + 16) n)) ≡ true
 axis_own x n u h = grind (arith, ints, nat_tests)
 
-own_met : (f : Frame) (k : ℕ) → InFrame f k → patch_met f f k ≡ true
+own_met : (f : Rectangle) (k : ℕ) → InFrame f k → patch_met f f k ≡ true
 own_met f k i = and_from _ _ (axis_own f.x f.w (patch_x k) i.across) (axis_own f.y f.h (patch_y k) i.down)
 
-frame_cases : (f : Frame) (k : ℕ) → InFrame f k ⊎ Outside f (k % 300 % 20) (k % 300 / 20)
+frame_cases : (f : Rectangle) (k : ℕ) → InFrame f k ⊎ Outside f (k % 300 % 20) (k % 300 / 20)
 frame_cases f k =
     ⊎_elim
     (λ (a : patch_x k < f.w).
@@ -94,7 +99,7 @@ hidden_none p k h =
     (λ (s : has (k / 300) (listed p) ≡ false). (hidden_bounded p).closed (k / 300) (k % 300 % 20) (k % 300 / 20) s)
     (cases_Bool (has (k / 300) (listed p)))
 
-module _ (p q : Plan) (c : ℕ) (ch : Concerns p q c) (area : Frame) (was : has c (listed p) ≡ true → area ≡ frame_in p c) (k : ℕ) (clear : InLayer q c k → Clear q c area k) where
+module _ (p q : Plan) (c : ℕ) (ch : Concerns p q c) (area : Rectangle) (was : has c (listed p) ≡ true → area ≡ frame_in p c) (k : ℕ) (clear : InLayer q c k → Clear q c area k) where
   abbrev d : ℕ
   d = k / 300
 
@@ -114,10 +119,10 @@ module _ (p q : Plan) (c : ℕ) (ch : Concerns p q c) (area : Frame) (was : has 
       let right = f.x +ℤ pos (min (u + 16) f.w) in
       let bottom = f.y +ℤ pos (min (v + 16) f.h) in
       let after = met_above q.frames c left top right bottom d ne (listed q) (λ _. cl.own) in
-      let before = met_above p.frames c left top right bottom d ne (listed p) (λ h. ap (λ (z : Frame). patch_met z f k) (sym (was h)) ∙ cl.other) in
+      let before = met_above p.frames c left top right bottom d ne (listed p) (λ h. ap (λ (z : Rectangle). patch_met z f k) (sym (was h)) ∙ cl.other) in
       hidden_at q.screen q.frames d (k % 300 % 20) (k % 300 / 20) (listed q) o
       ∙ area_alike q.screen (above d (layers_in q)) (above d (layers_in p)) f u v (sym after ∙ ap (λ ls. met (above d ls) left top right bottom) ch.layers ∙ before)
-      ∙ ap₂ (λ (s : Size) (g : Frame). hidden_area s (above d (layers_in p)) g u v) ch.screen (ch.frames d ne)
+      ∙ ap₂ (λ (s : Size) (g : Rectangle). hidden_area s (above d (layers_in p)) g u v) ch.screen (ch.frames d ne)
       ∙ sym (hidden_at p.screen p.frames d (k % 300 % 20) (k % 300 / 20) (listed p) (sym (ch.clients d ne) ∙ o))
 
   -- of the client's own layer there is none
@@ -133,7 +138,7 @@ module _ (p q : Plan) (c : ℕ) (ch : Concerns p q c) (area : Frame) (was : has 
       (λ (e : d ≡ c).
       let o : has c (listed p) ≡ true = ap (λ n. has n (listed p)) (sym e) ∙ h in
       resized (ap (λ n. (frame_in q n).w) e ∙ ch.wide o ∙ ap (λ n. (frame_in p n).w) (sym e)) (ap (λ n. (frame_in q n).h) e ∙ ch.high o ∙ ap (λ n. (frame_in p n).h) (sym e)))
-      (λ (ne : d ≡ c → ⊥). resized (ap (λ (z : Frame). z.w) (ch.frames d ne)) (ap (λ (z : Frame). z.h) (ch.frames d ne)))
+      (λ (ne : d ≡ c → ⊥). resized (ap (λ (z : Rectangle). z.w) (ch.frames d ne)) (ap (λ (z : Rectangle). z.h) (ch.frames d ne)))
       (cases_eq d c)
     where
       resized : (frame_in q d).w ≡ (frame_in p d).w → (frame_in q d).h ≡ (frame_in p d).h → Outside (frame_in p d) (k % 300 % 20) (k % 300 / 20)
@@ -157,30 +162,23 @@ module _ (p q : Plan) (c : ℕ) (ch : Concerns p q c) (area : Frame) (was : has 
       (frame_cases (frame_in q d) k)
 
   -- nor is it a patch of the moved layer, which is the client's or none
-  moved_none : (whole : Bool) → k < 2400 → patch_of q (cond whole c 255) k ≡ false
-  moved_none whole l =
-      ⊎_elim
-      (λ (e : eqb d (cond whole c 255) ≡ true). none whole (eqb-true d (cond whole c 255) e))
-      (λ (e : eqb d (cond whole c 255) ≡ false). and_right _ _ (and_left _ _ e))
-      (cases_Bool (eqb d (cond whole c 255)))
+  moved_none : (moved : Option ℕ) → IfSome moved (λ m. m ≡ c) → moved_patch q moved k ≡ false
+  moved_none None own = refl
+  moved_none (Some m) own =
+      ⊎_elim (λ (e : eqb d m ≡ true). none (eqb-true d m e)) (λ (e : eqb d m ≡ false). and_right _ _ (and_left _ _ e)) (cases_Bool (eqb d m))
     where
       last : (a b x : Bool) → x ≡ false → (a && (b && x)) ≡ false
       last a b x h = and_right a (b && x) (and_right b x h)
 
-      none : (whole : Bool) → d ≡ cond whole c 255 → patch_of q (cond whole c 255) k ≡ false
-      none true e =
+      none : d ≡ m → patch_of q m k ≡ false
+      none e =
           ⊎_elim
-          (λ (i : InFrame (frame_in q d) k). absurd (own_none e i))
+          (λ (i : InFrame (frame_in q d) k). absurd (own_none (e ∙ own) i))
           (λ (out : Outside (frame_in q d) (k % 300 % 20) (k % 300 / 20)).
-          last (has c (listed q)) (eqb d c) (ltb u (frame_in q c).w && ltb v (frame_in q c).h)
+          last (has m (listed q)) (eqb d m) (ltb u (frame_in q m).w && ltb v (frame_in q m).h)
           (ap (λ n. ltb u (frame_in q n).w && ltb v (frame_in q n).h) (sym e)
           ∙ ⊎_elim (λ (a : (frame_in q d).w ≤ u). and_left _ _ (le-ltb u (frame_in q d).w a)) (λ (a : (frame_in q d).h ≤ v). and_right _ _ (le-ltb v (frame_in q d).h a)) out))
           (frame_cases (frame_in q d) k)
-      none false e = absurd (omega arith)
 
-  pub same_needs : (whole : Bool) → k < 2400 → needs p q (cond whole c 255) k ≡ hidden_patch p k
-  same_needs whole l = ap₂ (λ a b. hidden_patch p k || (a || b)) same_hidden (moved_none whole l) ∙ twice (hidden_patch p k)
-    where
-      twice : (a : Bool) → (a || (a || false)) ≡ a
-      twice true = refl
-      twice false = refl
+  pub same_needs : (moved : Option ℕ) → IfSome moved (λ m. m ≡ c) → needs p q moved k ≡ hidden_patch p k
+  same_needs moved own = ap₂ (λ a b. hidden_patch p k || (a || b)) same_hidden (moved_none moved own) ∙ or_twice (hidden_patch p k)

@@ -3,7 +3,7 @@ use Rattle.std.proofs.Common.{◌≡◌, ℕ, Bool, true, false, not, ◌&&◌, 
 use Rattle.std.proofs.lemmas.Bool.{both_ways, eq-eqb, ne_eqb}
 use Rattle.paper.specs.Layers.{without, only, alter, at_corner}
 use Rattle.paper.proofs.Order.{without_without, without_raised, without_lowered, without_last, without_altered}
-use Rattle.plan.specs.declared.frame.Frame.{Frame}
+use Rattle.raster.specs.declared.rectangle.Rectangle.{Rectangle}
 use Rattle.plan.specs.declared.plan.Plan.{Plan}
 use Rattle.plan.specs.Frames.{has}
 use Rattle.plan.specs.Plans.{listed, layers_in, frame_in, outline}
@@ -18,8 +18,8 @@ module _ (p q : Plan) (c : ℕ) where
     layers = layers;
     frames = λ d ne. frames d;
     clients = clients;
-    wide = λ h. ap (λ (f : Frame). f.w) (frames c);
-    high = λ h. ap (λ (f : Frame). f.h) (frames c);
+    wide = λ h. ap (λ (f : Rectangle). f.w) (frames c);
+    high = λ h. ap (λ (f : Rectangle). f.h) (frames c);
   }
 
   pub raise_concerns : Arranged p q (without c (layers_in p) ++ only c (layers_in p)) (λ d. has d (listed p)) → SameFrames p q → Concerns p q c
@@ -44,11 +44,11 @@ module _ (p q : Plan) (c : ℕ) where
     layers = ap (without c) a.layers ∙ without_altered c (at_corner x y) (λ l. refl) (layers_in p);
     frames = frames;
     clients = λ d ne. a.clients d;
-    wide = λ h. ap (λ (f : Frame). f.w) (own h);
-    high = λ h. ap (λ (f : Frame). f.h) (own h);
+    wide = λ h. ap (λ (f : Rectangle). f.w) (own h);
+    high = λ h. ap (λ (f : Rectangle). f.h) (own h);
   }
 
-  pub open_concerns : (f : Frame) → has c (listed p) ≡ false → Arranged p q (layers_in p ++ (outline c f ∷ [])) (λ d. has d (listed p) || eqb c d) → OtherFrames c p q → Concerns p q c
+  pub open_concerns : (f : Rectangle) → has c (listed p) ≡ false → Arranged p q (layers_in p ++ (outline c f ∷ [])) (λ d. has d (listed p) || eqb c d) → OtherFrames c p q → Concerns p q c
   open_concerns f none a frames = record {
     screen = a.screen;
     layers = ap (without c) a.layers ∙ without_last c (outline c f) (layers_in p) (eq-eqb c c refl);

@@ -1,13 +1,14 @@
 -- Tables of slots, changed for some patches.
 use Rattle.std.specs.Prelude.{◌≡◌, ℕ, ◌<◌, ◌≤◌, Bool, true, ◌&&◌, Some, None, Option, ◌≢◌}
 use Rattle.slots.specs.declared.slots.Slots.{Slots}
-use Rattle.plan.specs.Allots.{passing}
+use Rattle.plan.specs.Counts.{passing}
+use Rattle.slots.specs.Entries.{entry}
 use Rattle.slots.specs.Tables.{slot_of, has_slot}
 
 -- All patches but one have the slots that they had.
 pub record OtherSlots (patch : ℕ) (t r : Slots) : Type 0 where
   pub places : r.places ≡ t.places
-  pub same : (k : ℕ) → (k ≢ patch) → slot_of r k ≡ slot_of t k
+  pub same : (k : ℕ) → (k ≢ patch) → entry r.table k ≡ entry t.table k
 
 -- Of the patches with a slot in t, those that pass a test have it in r too, and no others have one.
 pub record Retained (t : Slots) (test : ℕ → Bool) (r : Slots) : Type 0 where

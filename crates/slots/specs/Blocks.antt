@@ -1,7 +1,7 @@
 -- Blocks of patches: those of a layer that an area meets.
 use Rattle.std.specs.Prelude.{◌≡◌, ℕ, ◌+◌, ◌*◌, ◌/◌, ◌%◌, ◌<◌, ◌≤◌, min, Bool, true, cond, ℤ, pos, ◌+ℤ◌, ◌-ℤ◌, int_le, nat_eq, unsigned_abs}
 use Rattle.raster.specs.Calls.{any_below}
-use Rattle.plan.specs.declared.frame.Frame.{Frame}
+use Rattle.raster.specs.declared.rectangle.Rectangle.{Rectangle}
 use Rattle.plan.specs.Areas.{reaches, meets}
 use Rattle.slots.specs.declared.block.Stretch.{Stretch}
 
@@ -28,12 +28,12 @@ abbrev pub patch_y : ℕ → ℕ
 patch_y k = 16 * (k % 300 / 20)
 
 -- A layer's frame has the patch of a number.
-pub record InFrame (f : Frame) (k : ℕ) : Type 0 where
+pub record InFrame (f : Rectangle) (k : ℕ) : Type 0 where
   pub across : patch_x k < f.w
   pub down : patch_y k < f.h
 
 -- An area has a place of that patch, cut to the layer.
-abbrev pub patch_met : (area frame : Frame) → ℕ → Bool
+abbrev pub patch_met : (area frame : Rectangle) → ℕ → Bool
 patch_met a f k =
     meets a.x a.y a.w a.h (f.x +ℤ pos (patch_x k)) (f.y +ℤ pos (patch_y k)) (f.x +ℤ pos (min (patch_x k + 16) f.w))
     (f.y +ℤ pos (min (patch_y k + 16) f.h))

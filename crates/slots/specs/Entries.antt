@@ -1,5 +1,15 @@
--- Lists of free slots, as plain lists.
-use Rattle.std.specs.Prelude.{◌≡◌, ℕ, ◌<◌, ◌≤◌, List, slice_index, slice_index_or}
+-- Tables of slots and lists of free slots, as plain lists.
+use Rattle.std.specs.Prelude.{◌≡◌, ℕ, ◌<◌, ◌≤◌, List, Some, None, Option, slice_index, slice_index_or}
+
+-- The slot of a patch, if it has one.
+abbrev pub entry : List (Option ℕ) → ℕ → Option ℕ
+entry table k = slice_index_or table k None
+
+-- Two patches with one slot.
+pub record Clash (table : List (Option ℕ)) (p q : ℕ) : Type 0 where
+  pub slot : ℕ
+  pub one : entry table p ≡ Some slot
+  pub other : entry table q ≡ Some slot
 
 -- An entry of the list of free slots that counts: they stand from `used` up to `places`.
 pub record Spare (used places i : ℕ) : Type 0 where
@@ -13,7 +23,6 @@ pub record Double (used places : ℕ) (spare : List ℕ) (i j : ℕ) : Type 0 wh
   pub same : slice_index_or spare i 0 ≡ slice_index spare j
 
 -- A slot that is listed as free, and that a patch has.
-pub record Reused (used places : ℕ) (spare table : List ℕ) (i k : ℕ) : Type 0 where
+pub record Reused (used places : ℕ) (spare : List ℕ) (table : List (Option ℕ)) (i k : ℕ) : Type 0 where
   pub listed : Spare used places i
-  pub patch : k < 2400
-  pub same : slice_index_or table k 0 ≡ slice_index spare i
+  pub same : entry table k ≡ Some (slice_index spare i)

@@ -1,13 +1,12 @@
 -- Tables of slots, adjusted patch by patch.
-use Rattle.std.specs.Prelude.{◌≡◌, ℕ, ◌/◌, ◌<◌, Bool, true, false, cond, ◌||◌, ◌==◌}
-use Rattle.plan.specs.declared.frame.Frame.{Frame}
+use Rattle.std.specs.Prelude.{◌≡◌, ℕ, ◌/◌, ◌<◌, Bool, true, false, cond, ◌||◌, Some, None, Option, ◌==◌}
+use Rattle.raster.specs.declared.rectangle.Rectangle.{Rectangle}
 use Rattle.plan.specs.declared.plan.Plan.{Plan}
 use Rattle.plan.specs.Frames.{has}
-use Rattle.plan.specs.Plans.{listed, frame_in, needs}
-use Rattle.slots.specs.declared.change.Change.{Change}
+use Rattle.plan.specs.Plans.{listed, frame_in}
 use Rattle.slots.specs.declared.slots.Slots.{Slots}
 use Rattle.slots.specs.Blocks.{InFrame, patch_met}
-use Rattle.plan.specs.Allots.{passing}
+use Rattle.plan.specs.Counts.{passing}
 use Rattle.slots.specs.Tables.{slot_of, has_slot}
 
 -- The patches of a region have a slot in r exactly if they pass a test, and the others if they have one in t; a patch that has one in both has
@@ -22,13 +21,9 @@ abbrev pub Short : (ℕ → Bool) → Slots → Type 0
 Short test t = t.places < passing (λ k. has_slot t k || test k)
 
 -- The table was adjusted in a region, or there are too few slots.
-abbrev pub Adjusts : (test within : ℕ → Bool) (t r : Slots) → Bool → Type 0
-Adjusts test within t r true = Adjusted test within t r
-Adjusts test within t r false = Short test t
-
--- The patches that need a slot for a change.
-abbrev pub needed : Change → ℕ → Bool
-needed c = needs c.before c.after c.moved
+abbrev pub Adjusts : (test within : ℕ → Bool) (t r : Slots) → Option (Unit {0}) → Type 0
+Adjusts test within t r None = Short test t
+Adjusts test within t r (Some _) = Adjusted test within t r
 
 -- The patch of a number is one of an open layer, or of a client's layer, in an arrangement.
 pub record InLayer (q : Plan) (c k : ℕ) : Type 0 where
@@ -36,7 +31,7 @@ pub record InLayer (q : Plan) (c k : ℕ) : Type 0 where
   pub inside : InFrame (frame_in q (k / 300)) k
 
 -- A patch that meets neither of two areas: another one, and the frame of the client's layer.
-pub record Clear (q : Plan) (c : ℕ) (area : Frame) (k : ℕ) : Type 0 where
+pub record Clear (q : Plan) (c : ℕ) (area : Rectangle) (k : ℕ) : Type 0 where
   pub other : patch_met area (frame_in q (k / 300)) k ≡ false
   pub own : patch_met (frame_in q c) (frame_in q (k / 300)) k ≡ false
 
@@ -46,6 +41,6 @@ pub record AdjustedBut (test : ℕ → Bool) (rest : ℕ → Type 0) (t r : Slot
   pub adjusted : Adjusted test within t r
   pub outside : (k : ℕ) → k < 2400 → within k ≡ false → rest k
 
-abbrev pub AdjustsBut : (test : ℕ → Bool) (rest : ℕ → Type 0) (t r : Slots) → Bool → Type 0
-AdjustsBut test rest t r true = AdjustedBut test rest t r
-AdjustsBut test rest t r false = Short test t
+abbrev pub AdjustsBut : (test : ℕ → Bool) (rest : ℕ → Type 0) (t r : Slots) → Option (Unit {0}) → Type 0
+AdjustsBut test rest t r None = Short test t
+AdjustsBut test rest t r (Some _) = AdjustedBut test rest t r

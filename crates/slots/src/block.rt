@@ -2,7 +2,7 @@
 ghost use Rattle.std.specs.Prelude.{◌≡◌, ℕ, ◌+◌, ◌*◌, ◌/◌, ◌<◌, ◌≤◌, true};
 ghost use Rattle.slots.specs.Blocks.{past, in_block, Reached, InFrame, patch_met};
 
-use plan::Frame;
+use raster::Rectangle;
 
 /// Patches in some columns and rows of a layer: the number of the first, and how many columns and rows there are.
 #[derive(Clone, Copy)]
@@ -24,7 +24,7 @@ fn past(z: i16, n: u16, corner: i16) -> u32
     ensures { result ≡ past z n corner }
 {
     let far = z as i32 + n as i32 - corner as i32;
-    if far < 0 { 0 } else { far as u32 }
+    far.max(0) as u32
 }
 
 /// The patches along an axis, of `n` pixels from `x` on, that have one of the `m` places from `y` on.
@@ -38,12 +38,12 @@ fn along(x: i16, n: u16, y: i16, m: u16) -> Stretch
     let first = from / 16;
     Stretch {
         first,
-        count: ((to + 15) / 16).saturating_sub(first),
+        count: to.div_ceil(16).saturating_sub(first),
     }
 }
 
 /// The patches of a client's layer that an area meets.
-pub(crate) fn near(c: u8, frame: Frame, area: Frame) -> Block
+pub(crate) fn near(c: u8, frame: Rectangle, area: Rectangle) -> Block
     requires client { c < 8 }
     requires narrow { frame.w ≤ 320 }
     requires short { frame.h ≤ 240 }

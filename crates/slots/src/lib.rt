@@ -2,7 +2,6 @@
 #![tactic(auto)]
 
 mod block;
-mod change;
 mod single;
 mod slots;
 mod start;

@@ -1,19 +1,16 @@
 //! The table without slots, and what a table tells.
 ghost use Rattle.std.specs.Prelude.{◌≡◌, ℕ, ◌<◌, min, false, ◌&&◌, if◌then◌else◌, Some, None, nat_lt, slice_index};
-ghost use Rattle.plan.specs.Allots.{passing};
+ghost use Rattle.plan.specs.Counts.{passing};
 ghost use Rattle.slots.specs.Tables.{slot_of, has_slot};
 
 use crate::slots::Slots;
+use std::array;
 
 /// The numbers of all slots that a store can have, in order.
 fn in_order() -> [u16; 4096]
     ensures { (k : ℕ) → k < 4096 → slice_index result k ≡ k }
 {
-    let mut all = [0; 4096];
-    for k in 0..4096u16 {
-        all[k as usize] = k;
-    }
-    all
+    array::from_fn(|k| k as u16)
 }
 
 impl Slots {
@@ -25,7 +22,7 @@ impl Slots {
         Slots {
             places: places.min(4096),
             used: 0,
-            table: [65535; 2400],
+            table: [None; 2400],
             spare: in_order(),
         }
     }
@@ -48,10 +45,6 @@ impl Slots {
     pub fn slot(&self, patch: u16) -> Option<u16>
         ensures { result ≡ (if nat_lt patch 2400 && has_slot self.now patch then Some (slot_of self.now patch) else None) }
     {
-        if patch >= 2400 {
-            return None;
-        }
-        let slot = self.table[patch as usize];
-        if slot < self.places { Some(slot) } else { None }
+        *self.table.get(patch as usize)?
     }
 }

@@ -1,63 +1,79 @@
 //! Tables for the time of a change, and after it.
-ghost use Rattle.std.specs.Prelude.{◌≡◌, ℕ, ◌<◌, Bool, true, if◌then◌else◌};
+ghost use Rattle.std.specs.Prelude.{◌≡◌, ℕ, ◌<◌, true, IfSome};
 ghost use Rattle.plan.specs.Frames.{has};
-ghost use Rattle.plan.specs.Plans.{listed, frame_in, hidden_patch, needs};
+ghost use Rattle.plan.specs.Plans.{listed, frame_in, hidden_patch};
 ghost use Rattle.slots.specs.Tables.{has_slot, Fits};
 ghost use Rattle.slots.specs.Allots.{Retained, Allotted};
-ghost use Rattle.slots.specs.Changes.{Concerns};
+ghost use Rattle.slots.specs.Changes.{needed, Concerns};
 
-use crate::change::Change;
 use crate::slots::Slots;
-use plan::{Frame, Plan};
+use plan::{Change, Plan};
+use raster::Rectangle;
 
 /// The frame of a client's layer before a change, if it was open, else after it.
-fn left_area(before: &Plan, after: &Plan, c: u8) -> Frame
-    ensures { has c (listed before.now) ≡ true → result ≡ frame_in before.now c }
+fn left_area(change: Change, c: u8) -> Rectangle
+    ensures { has c (listed change.entry.before.now) ≡ true → result ≡ frame_in change.entry.before.now c }
 {
-    if before.is_open(c) {
-        before.frame(c)
+    if change.before.is_open(c) {
+        change.before.frame(c)
     } else {
-        after.frame(c)
+        change.after.frame(c)
     }
-}
-
-/// The client whose whole layer counts, or 255 for none.
-fn moved(c: u8, whole: bool) -> u8
-    ensures { result ≡ (if whole then c else 255) }
-{
-    if whole { c } else { 255 }
 }
 
 impl Slots {
-    /// The table for the time in which one arrangement becomes another that differs in a client's layer: each patch in need has a slot,
-    /// every patch of that layer too, if the `whole` layer counts. None, if there are too few slots.
-    pub fn allot(&self, before: &Plan, after: &Plan, c: u8, whole: bool) -> Option<Slots>
-        ensures { Fits before.now self.now → Concerns before.now after.now c → Allotted self.now (needs before.now after.now (if whole then c else 255)) result }
+    /// The table without the slots of patches that a change needs none for.
+    fn retained(&self, change: Change) -> Slots
+        ensures { Retained self.now (needed change.entry) result }
     {
-        let change = Change {
-            before: *before,
-            after: *after,
-            moved: moved(c, whole),
-        };
         let mut slots = *self;
-        if slots.adjust(&change, c, left_area(before, after, c)) {
-            Some(slots)
-        } else {
-            None
+        for patch in 0..2400 {
+            slots.retain_patch(change, patch);
         }
+        slots
     }
 
-    /// The table after such a change: without the slots of patches that are not hidden.
-    pub fn released(&self, before: &Plan, after: &Plan, c: u8) -> Slots
-        ensures { (whole : Bool) → Concerns before.now after.now c → ((k : ℕ) → k < 2400 → has_slot self.now k ≡ needs before.now after.now (if whole then c else 255) k) → Retained self.now (hidden_patch after.now) result }
+    /// The table for the time of a change: each patch in need has a slot, the one that it had if it had one. None, if there are too few slots.
+    pub fn allot(&self, change: Change) -> Option<Slots>
+        ensures { Allotted self.now (needed change.entry) result }
     {
-        let change = Change {
-            before: *after,
-            after: *after,
-            moved: 255,
+        let mut slots = self.retained(change);
+        slots.adjust_row(change, 0, 2400)?;
+        Some(slots)
+    }
+
+    /// The table without the slots of patches that are not hidden.
+    pub fn released(&self, plan: &Plan) -> Slots
+        ensures { Retained self.now (hidden_patch plan.now) result }
+    {
+        let still = Change {
+            before: plan,
+            after: plan,
+            moved: None,
+        };
+        self.retained(still)
+    }
+
+    /// The table that `allot` makes, for a change of one client's layer alone: it looks only at the patches that can tell such a change.
+    pub fn allot_near(&self, change: Change, c: u8) -> Option<Slots>
+        ensures { Fits change.entry.before.now self.now → Concerns change.entry.before.now change.entry.after.now c → IfSome change.entry.moved (λ m. m ≡ c) → Allotted self.now (needed change.entry) result }
+    {
+        let mut slots = *self;
+        slots.adjust(change, c, left_area(change, c))?;
+        Some(slots)
+    }
+
+    /// The table after such a change, without the slots of patches that are not hidden; it looks at as few.
+    pub fn released_near(&self, change: Change, c: u8) -> Slots
+        ensures { Concerns change.entry.before.now change.entry.after.now c → IfSome change.entry.moved (λ m. m ≡ c) → ((k : ℕ) → k < 2400 → has_slot self.now k ≡ needed change.entry k) → Retained self.now (hidden_patch change.entry.after.now) result }
+    {
+        let after = Change {
+            before: change.after,
+            after: change.after,
+            moved: None,
         };
         let mut slots = *self;
-        let _ = slots.adjust(&change, c, left_area(before, after, c)); // no patch needs a new slot
+        let _ = slots.adjust(after, c, left_area(change, c)); // no patch needs a new slot
         slots
     }
 }

@@ -1,10 +1,10 @@
-use Rattle.std.proofs.Common.{arith, w16, SFits, rules}
+use Rattle.std.proofs.Common.{w16, SFits, rules}
 use Rattle.std.proofs.lemmas.Int.{to_z-of_z}
 use Rattle.slots.proofs.Blocks.{reached_at, near_has}
 use Rattle.slots.proofs.block.near.Goals as goal
 
-pub returns : goal.returns
-returns c =
+pub returns-clause-all : goal.returns-clause-all
+returns-clause-all c =
     let a = c.args in
     let f = a.frame in
     let r = a.area in
@@ -12,16 +12,6 @@ returns c =
     let fy : SFits w16 f.y = search rules in
     let rx : SFits w16 r.x = search rules in
     let ry : SFits w16 r.y = search rules in
-    let across = c.along-across.ensures in
-    let down = c.along-down.ensures in
-    let narrow = c.requires.narrow in
-    let short = c.requires.short in
-    let client = c.requires.client in
-    let few_x = across.few in
-    let few_y = down.few in
-    record {
-      inside = λ j h. omega arith;
-      all = near_has a.c f r c.along-across.result c.along-down.result
-          (reached_at f.x _ f.w r.x _ r.w c.along-across.result (to_z-of_z w16 f.x fx) (to_z-of_z w16 r.x rx) across.all)
-          (reached_at f.y _ f.h r.y _ r.h c.along-down.result (to_z-of_z w16 f.y fy) (to_z-of_z w16 r.y ry) down.all);
-    }
+    near_has a.c f r c.along-across.result c.along-down.result
+    (reached_at f.x _ f.w r.x _ r.w c.along-across.result (to_z-of_z w16 f.x fx) (to_z-of_z w16 r.x rx) c.along-across.ensures.all)
+    (reached_at f.y _ f.h r.y _ r.h c.along-down.result (to_z-of_z w16 f.y fy) (to_z-of_z w16 r.y ry) c.along-down.ensures.all)

@@ -1,7 +1,9 @@
-use Rattle.std.proofs.Common.{◌≡◌, ℕ, ◌<◌, ℤ, pos, ◌+ℤ◌, ◌-ℤ◌, arith, w16, w32, SFits, to_z, of_z}
-use Rattle.std.proofs.lemmas.Int.{ints}
+use Rattle.std.proofs.Common.{◌≡◌, ℕ, ◌<◌, ℤ, pos, ◌+ℤ◌, ◌-ℤ◌, nat_abs, ap, ◌∙◌, rules, arith, w16, w32, SFits, to_z, of_z}
+use Rattle.std.specs.Int.{int_max}
+use Rattle.std.proofs.lemmas.Int.{ints, to_z-of_z}
+use Rattle.std.proofs.lemmas.Bool.Decides.{nat_tests}
 use Rattle.plan.proofs.Turns.{summed}
-use Rattle.slots.proofs.Blocks.{far_below, far_above}
+use Rattle.slots.specs.Blocks.{past}
 use Rattle.slots.proofs.block.past.Goals as goal
 
 abbrev far : (z : ℤ) (n : ℕ) (x : ℤ) → ℤ
@@ -10,12 +12,12 @@ far z n x = to_z w32 (of_z w32 (summed z n -ℤ to_z w32 (of_z w32 (to_z w16 (of
 far_is : (z : ℤ) (n : ℕ) (x : ℤ) → SFits w16 z → n < 65536 → SFits w16 x → far z n x ≡ (z +ℤ pos n) -ℤ x
 far_is z n x fz fn fx = omega (arith, ints)
 
-pub returns-then-far-lt0 : goal.returns-then-far-lt0
-returns-then-far-lt0 c =
-    let a = c.args in
-    far_below a.z a.n a.corner (far a.z a.n a.corner) (far_is a.z a.n a.corner c.ranges.z c.ranges.n.fits c.ranges.corner) c.if-far-lt0.true
+far_past : (z : ℤ) (n : ℕ) (x far m : ℤ) → far ≡ (z +ℤ pos n) -ℤ x → m ≡ int_max far (pos 0) → nat_abs m ≡ past z n x
+far_past z n x far m e h = grind (arith, ints, nat_tests)
 
-pub returns-else-far-lt0 : goal.returns-else-far-lt0
-returns-else-far-lt0 c =
+pub returns : goal.returns
+returns c =
     let a = c.args in
-    far_above a.z a.n a.corner (far a.z a.n a.corner) (far_is a.z a.n a.corner c.ranges.z c.ranges.n.fits c.ranges.corner) c.if-far-lt0.false
+    let far_here = far_is a.z a.n a.corner c.ranges.z c.ranges.n.fits c.ranges.corner in
+    let fits : SFits w32 c.max.result = search rules in
+    ap nat_abs (to_z-of_z w32 c.max.result fits) ∙ far_past a.z a.n a.corner (far a.z a.n a.corner) c.max.result far_here c.max.ensures.value

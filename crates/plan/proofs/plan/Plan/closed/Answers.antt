@@ -1,34 +1,34 @@
-use Rattle.std.proofs.Common.{sym, refl, ap, ◌∙◌, arith}
+use Rattle.std.proofs.Common.{◌≡◌, length, sym, refl, ap, ◌∙◌, rules}
+use Rattle.std.proofs.lemmas.List.Sorted.{IsPermutation-put_mid}
 use Rattle.std.proofs.lemmas.Bool.{both_ways}
 use Rattle.plan.specs.Frames.{distinct}
 use Rattle.plan.specs.Plans.{listed}
 use Rattle.plan.proofs.Orders.{others_distinct, without_outlines, others_have}
-use Rattle.plan.proofs.Sifts.{arranged, same_frames, open_low, open_room, closed_same}
+use Rattle.plan.proofs.Rotations.{absent, open_at, closed_order, low_permuted}
+use Rattle.plan.proofs.Sifts.{arranged, closed_same}
 use Rattle.plan.proofs.plan.Plan.closed.Goals as goal
 
-pub returns-then-not-is_open : goal.returns-then-not-is_open
-returns-then-not-is_open c =
-    let p = c.args.self.now in
-    record { arranged = closed_same p c.args.c (sym c.if-not-is_open.ensures); frames = λ d. refl; same = λ _. refl }
+pub returns-in_default-clause-arranged : goal.returns-in_default-clause-arranged
+returns-in_default-clause-arranged c = closed_same c.args.self.now c.args.c (absent c.args.c (listed c.args.self.now) (sym c.in_default.is ∙ c.position.ensures))
 
-pub sifted-count-requires : goal.sifted-count-requires
-sifted-count-requires c =
-    let p = c.args.self.now in
-    let h = sym c.if-not-is_open.ensures in
-    (open_low p c.args.c h, omega (arith, open_room p c.args.c h))
+pub invariant_of-plan-clause-low : goal.invariant_of-plan-clause-low
+invariant_of-plan-clause-low c = low_permuted _ _ (IsPermutation-put_mid _ _ _ _ c.rotate_left.ensures.permutation) c.args.self.now.low
 
-pub reordered-requires : goal.reordered-requires
-reordered-requires c =
-    let e = c.sifted-count.ensures in
-    (e.few, (e.low, ap distinct e.order ∙ others_distinct c.args.c (listed c.args.self.now) c.args.self.now.once))
-
-pub returns : goal.returns
-returns c =
+pub invariant_of-plan-clause-once : goal.invariant_of-plan-clause-once
+invariant_of-plan-clause-once c =
     let p = c.args.self.now in
-    let e = c.reordered.ensures in
-    record {
-      arranged = arranged p c.reordered.result _ _ _ e.screen e.frames (e.order ∙ c.sifted-count.ensures.order)
-          (sym (without_outlines c.args.c (listed p) p.frames)) (λ d. others_have c.args.c d (listed p));
-      frames = same_frames p c.reordered.result e.frames;
-      same = λ n. absurd (both_ways _ n (sym c.if-not-is_open.ensures));
-    }
+    let k : length p.order ≡ 8 = search rules in
+    let e = sym c.in-Some.is ∙ c.position.ensures in
+    ap distinct (closed_order p c.args.c c.in-Some.i e k c.rotate_left.new.self c.rotate_left.ensures.after) ∙ others_distinct c.args.c (listed p) p.once
+
+pub returns-clause-arranged : goal.returns-clause-arranged
+returns-clause-arranged c =
+    let p = c.args.self.now in
+    let k : length p.order ≡ 8 = search rules in
+    let e = sym c.in-Some.is ∙ c.position.ensures in
+    arranged p _ _ _ _ refl refl (closed_order p c.args.c c.in-Some.i e k c.rotate_left.new.self c.rotate_left.ensures.after)
+    (sym (without_outlines c.args.c (listed p) p.frames)) (λ d. others_have c.args.c d (listed p))
+
+pub returns-clause-same : goal.returns-clause-same
+returns-clause-same c =
+    λ h. absurd (both_ways _ h (open_at c.args.self.now c.args.c c.in-Some.i (sym c.in-Some.is ∙ c.position.ensures)))

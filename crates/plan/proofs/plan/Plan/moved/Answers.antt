@@ -1,49 +1,41 @@
-use Rattle.std.proofs.Common.{get_or, sym, refl, ◌∙◌}
+use Rattle.std.proofs.Common.{set, sym, refl, ap, ◌∙◌, arith}
 use Rattle.std.proofs.lemmas.Int.{to_z-of_z}
-use Rattle.std.proofs.lemmas.Bool.{both_ways}
-use Rattle.plan.specs.Frames.{no_frame}
+use Rattle.plan.specs.Plans.{listed, outlines}
 use Rattle.plan.specs.Arranged.{cornered}
-use Rattle.plan.proofs.Sifts.{open_low, moved_same, set_narrow, set_short, set_others, set_own, moved_layers}
-use Rattle.std.proofs.lemmas.List.{length-set}
+use Rattle.plan.proofs.Sifts.{open_low, moved_same, set_narrow, set_short, set_own, moved_layers}
 use Rattle.plan.proofs.plan.Plan.moved.Goals as goal
 
-pub returns-then-not-is_open : goal.returns-then-not-is_open
-returns-then-not-is_open c =
-    let n = sym c.if-not-is_open.ensures in
-    record {
-      arranged = moved_same c.args.self.now c.args.c n c.args.x c.args.y;
-      frames = λ d _. refl;
-      own = λ h. absurd (both_ways _ n h);
-      same = λ _. refl;
-    }
+pub returns-then-not-is_open-clause-arranged : goal.returns-then-not-is_open-clause-arranged
+returns-then-not-is_open-clause-arranged c = moved_same c.args.self.now c.args.c (sym c.if-not-is_open.ensures) c.args.x c.args.y
 
-pub bounds-frames-c : goal.bounds-frames-c
-bounds-frames-c c = open_low c.args.self.now c.args.c (sym c.if-not-is_open.ensures)
+pub bounds-plan-c : goal.bounds-plan-c
+bounds-plan-c c = open_low c.args.self.now c.args.c (sym c.if-not-is_open.ensures)
 
-pub bounds-frames-c-2 : goal.bounds-frames-c-2
-bounds-frames-c-2 c = open_low c.args.self.now c.args.c (sym c.if-not-is_open.ensures)
-
-pub invariant_of-result : goal.invariant_of-result
-invariant_of-result c =
+pub invariant_of-plan-clause-narrow : goal.invariant_of-plan-clause-narrow
+invariant_of-plan-clause-narrow c =
     let p = c.args.self.now in
-    let h = open_low p c.args.c (sym c.if-not-is_open.ensures) in
-    record {
-      long = length-set p.frames c.args.c _ ∙ p.long;
-      few = p.few;
-      low = p.low;
-      once = p.once;
-      narrow = set_narrow p c.args.c _ h (p.narrow c.args.c);
-      short = set_short p c.args.c _ h (p.short c.args.c);
-    }
+    let e = ap (λ f. f.w) c.frame.ensures in
+    set_narrow p c.args.c _ (open_low p c.args.c (sym c.if-not-is_open.ensures)) (omega (arith, p.narrow c.args.c))
 
-pub returns : goal.returns
-returns c =
+pub invariant_of-plan-clause-short : goal.invariant_of-plan-clause-short
+invariant_of-plan-clause-short c =
     let p = c.args.self.now in
-    let h = sym c.if-not-is_open.ensures in
+    let e = ap (λ f. f.h) c.frame.ensures in
+    set_short p c.args.c _ (open_low p c.args.c (sym c.if-not-is_open.ensures)) (omega (arith, p.short c.args.c))
+
+pub returns-clause-arranged : goal.returns-clause-arranged
+returns-clause-arranged c =
+    let p = c.args.self.now in
     let fx = c.ranges.x in let fy = c.ranges.y in
     record {
-      arranged = record { screen = refl; layers = simp to_z-of_z (moved_layers p c.args.c c.args.x c.args.y h); clients = λ d. refl };
-      frames = λ d ne. set_others p c.args.c _ d ne;
-      own = λ _. simp to_z-of_z (set_own p c.args.c (cornered c.args.x c.args.y (get_or p.frames c.args.c no_frame)) (open_low p c.args.c h));
-      same = λ n. absurd (both_ways _ n h);
+      screen = refl;
+      layers = simp to_z-of_z (ap (λ f. outlines (listed p) (set p.frames c.args.c (cornered c.args.x c.args.y f))) c.frame.ensures
+          ∙ moved_layers p c.args.c c.args.x c.args.y (sym c.if-not-is_open.ensures));
+      clients = λ d. refl;
     }
+
+pub returns-clause-own : goal.returns-clause-own
+returns-clause-own c =
+    let p = c.args.self.now in
+    let fx = c.ranges.x in let fy = c.ranges.y in
+    λ h. simp to_z-of_z (set_own p c.args.c (cornered c.args.x c.args.y c.frame.result) (open_low p c.args.c h) ∙ ap (cornered c.args.x c.args.y) c.frame.ensures)

@@ -1,51 +1,35 @@
-use Rattle.std.proofs.Common.{sym, refl, ap, ◌∙◌, arith}
+use Rattle.std.proofs.Common.{◌≡◌, length, sym, refl, ap, ◌∙◌, rules}
+use Rattle.std.proofs.lemmas.List.Sorted.{IsPermutation-put_mid}
 use Rattle.std.proofs.lemmas.Bool.{both_ways}
 use Rattle.plan.specs.Frames.{distinct}
 use Rattle.plan.specs.Plans.{listed}
-use Rattle.plan.proofs.Orders.{others_distinct, distinct_last, others_lack, raised_one, has_raised}
-use Rattle.plan.proofs.Sifts.{arranged, same_frames, open_low, open_room, raised_same, low_set, raise_room, raise_order}
+use Rattle.plan.proofs.Orders.{others_distinct, others_lack, distinct_last, raised_one, has_raised}
+use Rattle.plan.proofs.Rotations.{absent, open_at, raised_order, low_permuted}
+use Rattle.plan.proofs.Sifts.{arranged, raised_same}
 use Rattle.plan.proofs.plan.Plan.raised.Goals as goal
 
-pub returns-then-not-is_open : goal.returns-then-not-is_open
-returns-then-not-is_open c =
-    let p = c.args.self.now in
-    record { arranged = raised_same p c.args.c (sym c.if-not-is_open.ensures); frames = λ d. refl; same = λ _. refl }
+pub returns-in_default-clause-arranged : goal.returns-in_default-clause-arranged
+returns-in_default-clause-arranged c = raised_same c.args.self.now c.args.c (absent c.args.c (listed c.args.self.now) (sym c.in_default.is ∙ c.position.ensures))
 
-pub sifted-count-requires : goal.sifted-count-requires
-sifted-count-requires c =
-    let p = c.args.self.now in
-    let h = sym c.if-not-is_open.ensures in
-    (open_low p c.args.c h, omega (arith, open_room p c.args.c h))
+pub invariant_of-plan-clause-low : goal.invariant_of-plan-clause-low
+invariant_of-plan-clause-low c = low_permuted _ _ (IsPermutation-put_mid _ _ _ _ c.rotate_left.ensures.permutation) c.args.self.now.low
 
-pub bounds-order-count : goal.bounds-order-count
-bounds-order-count c =
-    let e = c.sifted-count.ensures in
-    raise_room c.args.self.now c.args.c _ _ e.few e.long e.order (sym c.if-not-is_open.ensures)
-
-pub reordered-requires : goal.reordered-requires
-reordered-requires c =
+pub invariant_of-plan-clause-once : goal.invariant_of-plan-clause-once
+invariant_of-plan-clause-once c =
     let p = c.args.self.now in
-    let e = c.sifted-count.ensures in
-    let h = sym c.if-not-is_open.ensures in
-    let room = raise_room p c.args.c _ _ e.few e.long e.order h in
-    let long = e.long in (
-      omega arith,
-      (
-        low_set _ c.args.c _ (omega arith) (open_low p c.args.c h) e.low,
-        ap distinct (raise_order p c.args.c _ _ e.few e.long e.order h)
-            ∙ distinct_last c.args.c _ (others_distinct c.args.c (listed p) p.once) (others_lack c.args.c (listed p)),
-      ),
-    )
+    let k : length p.order ≡ 8 = search rules in
+    let e = sym c.in-Some.is ∙ c.position.ensures in
+    ap distinct (raised_order p c.args.c c.in-Some.i e k c.rotate_left.new.self c.rotate_left.ensures.after)
+    ∙ distinct_last c.args.c _ (others_distinct c.args.c (listed p) p.once) (others_lack c.args.c (listed p))
 
-pub returns : goal.returns
-returns c =
+pub returns-clause-arranged : goal.returns-clause-arranged
+returns-clause-arranged c =
     let p = c.args.self.now in
-    let s = c.sifted-count.ensures in
-    let e = c.reordered.ensures in
-    let h = sym c.if-not-is_open.ensures in
-    record {
-      arranged = arranged p c.reordered.result _ _ _ e.screen e.frames (e.order ∙ raise_order p c.args.c _ _ s.few s.long s.order h)
-          (raised_one c.args.c (listed p) p.frames p.once h) (λ d. has_raised c.args.c d (listed p) h);
-      frames = same_frames p c.reordered.result e.frames;
-      same = λ n. absurd (both_ways _ n h);
-    }
+    let k : length p.order ≡ 8 = search rules in
+    let e = sym c.in-Some.is ∙ c.position.ensures in
+    arranged p _ _ _ _ refl refl (raised_order p c.args.c c.in-Some.i e k c.rotate_left.new.self c.rotate_left.ensures.after)
+    (raised_one c.args.c (listed p) p.frames p.once (open_at p c.args.c c.in-Some.i e)) (λ d. has_raised c.args.c d (listed p) (open_at p c.args.c c.in-Some.i e))
+
+pub returns-clause-same : goal.returns-clause-same
+returns-clause-same c =
+    λ h. absurd (both_ways _ h (open_at c.args.self.now c.args.c c.in-Some.i (sym c.in-Some.is ∙ c.position.ensures)))

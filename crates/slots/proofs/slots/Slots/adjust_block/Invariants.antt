@@ -1,5 +1,6 @@
 use Rattle.slots.specs.Blocks.{in_block}
-use Rattle.slots.specs.Walks.{Adjusted, needed}
+use Rattle.slots.specs.Walks.{Adjusted}
+use Rattle.slots.specs.Changes.{needed}
 use Rattle.slots.proofs.slots.Slots.adjust_block.Given as goal
 
 abbrev pub invariant-loop-j : goal.invariant-loop-j

@@ -1,5 +1,6 @@
 use Rattle.slots.specs.Blocks.{in_row}
-use Rattle.slots.specs.Walks.{Adjusted, needed}
+use Rattle.slots.specs.Walks.{Adjusted}
+use Rattle.slots.specs.Changes.{needed}
 use Rattle.slots.proofs.slots.Slots.adjust_row.Given as goal
 
 abbrev pub invariant-loop-i : goal.invariant-loop-i

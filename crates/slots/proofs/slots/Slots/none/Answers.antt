@@ -1,17 +1,25 @@
-use Rattle.std.proofs.Common.{◌≡◌, ℕ, ◌<◌, ◌≤◌, min, false, ltb, get_or, replicate, sym, arith}
-use Rattle.std.proofs.lemmas.List.{get_or-replicate}
-use Rattle.std.proofs.lemmas.Bool.{le-ltb}
+use Rattle.std.proofs.Common.{◌≡◌, ℕ, ◌<◌, ◌≤◌, min, replicate, sym, ap, ◌∙◌, ⊎_elim, arith}
+use Rattle.std.specs.Prelude.{None, Option, is_some}
+use Rattle.std.proofs.lemmas.List.{get_or-replicate, get_or_past, length-replicate}
+use Rattle.std.proofs.lemmas.Bool.{cases_lt}
+use Rattle.std.proofs.lemmas.Option.{none-some}
+use Rattle.slots.specs.Entries.{entry}
 use Rattle.slots.proofs.Counts.{counted_none}
 use Rattle.slots.proofs.slots.Slots.none.Goals as goal
 
 few : (n m : ℕ) → m ≡ min n 4096 → m ≤ 4096
 few n m e = omega arith
 
-all_alike : (k : ℕ) → k < 2400 → ◌≡◌ {A = ℕ} (get_or (replicate 2400 65535) k 0) 65535
-all_alike k h = get_or-replicate 2400 k 65535 0 h
+-- in a list of none, and beyond it, no patch has a slot
+none_of : (n k : ℕ) → entry (replicate n None) k ≡ None
+none_of n k =
+    ⊎_elim
+    (λ (l : k < n). get_or-replicate n k None None l)
+    (λ (l : n ≤ k). get_or_past (replicate n None) k None (let e = length-replicate {A = Option ℕ} n None in omega arith))
+    (cases_lt k n)
 
-no_slot : (n : ℕ) → n ≤ 4096 → (k : ℕ) → k < 2400 → ltb (get_or (replicate 2400 65535) k 0) n ≡ false
-no_slot n h k l = le-ltb _ _ (let e = all_alike k l in omega arith)
+no_entry : (k : ℕ) → entry (replicate 2400 None) k ≡ None
+no_entry = none_of 2400
 
 pub invariant_of-result : goal.invariant_of-result
 invariant_of-result c =
@@ -20,12 +28,13 @@ invariant_of-result c =
     record {
       room = m;
       most = omega arith;
-      count = sym (counted_none _ 2400 (no_slot _ m));
-      apart = λ p q t. let e = all_alike p t.one in let h = t.taken in absurd (omega arith);
+      count = sym (counted_none _ 2400 (λ k _. ap is_some (no_entry k)));
+      low = λ k s e. absurd (none-some s (sym (no_entry k) ∙ e));
+      apart = λ p q t. absurd (none-some t.slot (sym (no_entry p) ∙ t.one));
       there = λ i s. let b = s.below in let e = order i (omega arith) in omega arith;
-      free = λ i k r. let b = r.listed.below in let e = order i (omega arith) in let f = all_alike k r.patch in let s = r.same in omega arith;
+      free = λ i k r. none-some _ (sym (no_entry k) ∙ r.same);
       once = λ i j d. let a = d.one.below in let b = d.other.below in let e = order i (omega arith) in let f = order j (omega arith) in let s = d.same in omega arith;
     }
 
-pub returns : goal.returns
-returns c = record { places = c.min.ensures; empty = no_slot _ (few _ _ c.min.ensures) }
+pub returns-clause-empty : goal.returns-clause-empty
+returns-clause-empty c = λ k _. ap is_some (no_entry k)
