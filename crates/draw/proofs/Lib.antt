@@ -1,4 +1,3 @@
+pub mod Turns
 pub mod Strokes
 pub mod Stamped
-pub mod Stamps
-pub mod Calls

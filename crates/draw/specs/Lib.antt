@@ -1,3 +1,4 @@
 pub mod Touches
+pub mod Sources
 pub mod Areas
 pub mod Stamps

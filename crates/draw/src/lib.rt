@@ -1,9 +1,9 @@
 //! Drawing on layers: rectangles painted and bitmaps stamped, pixel by pixel where they lie.
 #![tactic(auto)]
 
-mod rectangle;
-mod stamping;
+mod blending;
+mod calls;
+mod source;
 mod touch;
 
-pub use rectangle::paint;
-pub use stamping::stamp;
+pub use calls::{paint, stamp};

@@ -3,17 +3,16 @@ use Rattle.std.proofs.Common.{◌≡◌, ℕ, ◌+◌, Bool, true, false, cond, 
 use Rattle.raster.specs.Picture.{Picture}
 use Rattle.raster.specs.Rules.{total}
 use Rattle.raster.specs.declared.size.Size.{Size}
-use Rattle.paper.specs.Layers.{Layer, Desk, or_else, covers, topmost, pixels_of, is_open, or_blank}
+use Rattle.paper.specs.Layers.{Layer, Desk, or_else, covers, topmost, pixels_of, is_open}
 use Rattle.paper.specs.Slots.{hidden_in, patches_along, count_patches, hidden_count, slots_needed}
 use Rattle.paper.specs.Desk.{client_if}
 use Rattle.paper.specs.Run.{Alike, none, more}
-use Rattle.paper.proofs.Layers.{paint_other}
 use Rattle.paper.proofs.Outline.{SameOutline, covers_same, hidden_in_same, hidden_count_same}
 use Rattle.plan.specs.declared.plan.Plan.{Plan}
-use Rattle.plan.specs.declared.slots.Slots.{Slots}
+use Rattle.slots.specs.declared.slots.Slots.{Slots}
 use Rattle.plan.specs.Frames.{has}
 use Rattle.plan.specs.Plans.{outlines, listed, layers_in}
-use Rattle.hold.specs.Held.{Pixels, layers_with, held, paper_of, layer_held, Fitting, Drawn}
+use Rattle.hold.specs.Held.{Pixels, layers_with, held, paper_of, Fitting}
 
 -- ── Outlines ──
 
@@ -77,10 +76,3 @@ module _ (screen store : Picture) (p : Plan) (t : Slots) where
   pub paper_hidden : Fitting screen store p t → (slots : ℕ) → hidden_count (paper_of screen store p t) ≡ hidden_count (record { size = p.screen; slots = slots; layers = layers_in p })
   unfolding paper_of
   paper_hidden f slots = hidden_count_same (paper_of screen store p t) (record { size = p.screen; slots = slots; layers = layers_in p }) (sym f.size) paper_outlines
-
--- Another client's layer stays.
-pub drawn_others : (p : Plan) (t : Slots) (screen store screen' store' : Picture) (c : ℕ) (q : Picture) → Drawn p t screen store screen' store' c q
-    → (d : ℕ) → eqb c d ≡ false → layer_held screen' store' p t d ≡ layer_held screen store p t d
-drawn_others p t screen store screen' store' c q e d ne =
-    ap₂ (λ (n : ℕ) (o : Option Picture). or_blank n o) (ap (λ (k : Desk). k.size.depth) e.paper)
-    (ap (λ (k : Desk). pixels_of d k.layers) e.paper ∙ paint_other c d q (paper_of screen store p t).layers ne)

@@ -10,7 +10,7 @@ use Rattle.paper.specs.Desk.{repaint}
 use Rattle.paper.proofs.Screen.{screen_joins}
 use Rattle.paper.proofs.Pane.{repaint_own, repaint_again, repainted_pane}
 use Rattle.plan.specs.declared.plan.Plan.{Plan}
-use Rattle.plan.specs.declared.slots.Slots.{Slots}
+use Rattle.slots.specs.declared.slots.Slots.{Slots}
 use Rattle.plan.specs.Frames.{has}
 use Rattle.plan.specs.Plans.{listed, layers_in, frame_in}
 use Rattle.hold.specs.declared.spot.Spot.{Spot}

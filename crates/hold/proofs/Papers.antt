@@ -1,18 +1,22 @@
 -- The desk on paper that screen and store hold: its layers by the pixels held, and as those change.
-use Rattle.std.proofs.Common.{◌≡◌, ℕ, ◌<◌, Bool, true, false, cond, not, ◌&&◌, ◌||◌, eqb, ltb, List, [], ◌∷◌, ℤ, Some, sym, refl, ap, ◌∙◌, ap₂, ⊎_elim}
-use Rattle.std.proofs.lemmas.Bool.{both_ways, false≢true, and_parts, and_from, or_left, or_right, not-true, eqb-true, eq-eqb, ltb-true, lt-ltb, cases_Bool, cond-true}
+use Rattle.std.proofs.Common.{◌≡◌, ℕ, ◌<◌, Bool, true, false, cond, not, ◌&&◌, ◌||◌, eqb, ltb, List, [], ◌∷◌, ℤ, Some, sym, refl, ap, ◌∙◌, ap₂}
+use Rattle.std.proofs.lemmas.Bool.{ne_eqb, both_ways, false≢true, and_parts, and_from, or_left, or_right, not-true, eqb-true, eq-eqb, ltb-true, lt-ltb, cond-true}
 use Rattle.raster.specs.Picture.{Picture, sizes}
 use Rattle.raster.specs.declared.size.Size.{Size}
 use Rattle.paper.specs.Layers.{Layer, covers, covered, pixels_of, or_blank, alter, with_pixels}
 use Rattle.paper.specs.Slots.{slots_of}
 use Rattle.paper.specs.Desk.{repaint}
 use Rattle.plan.specs.declared.plan.Plan.{Plan}
-use Rattle.plan.specs.declared.slots.Slots.{Slots}
+use Rattle.slots.specs.declared.slots.Slots.{Slots}
 use Rattle.plan.specs.Frames.{has, distinct}
 use Rattle.plan.specs.Plans.{outline, outlines, listed, layers_in, frame_in}
 use Rattle.hold.specs.Held.{Pixels, layer_with, layers_with, held, paper_of, layer_held, Holds, OwnPixel}
 
 -- ── Layers with pixels ──
+
+-- a client that is listed is none that is not
+pub listed_apart : (c d : ℕ) (cs : List ℕ) → has c cs ≡ false → has d cs ≡ true → c ≡ d → ⊥
+listed_apart c d cs n m e = both_ways (has c cs) n (ap (λ k. has k cs) e ∙ m)
 
 either_within : (b : Bool) (m n : ℕ) → (b ≡ true → m ≡ n) → cond b m 0 ≡ cond b n 0
 either_within true m n h = h refl
@@ -39,9 +43,6 @@ module _ (depth : ℕ) (p : Plan) (px qx : Pixels) where
   layers_same [] h = refl
   layers_same (c ∷ cs) h = ap₂ ◌∷◌ (layer_same c (h c (or_left _ _ (eq-eqb c c refl)))) (layers_same cs (λ d m. h d (or_right _ _ m)))
 
-  has_not : (c e : ℕ) (ds : List ℕ) → has c ds ≡ false → has e ds ≡ true → eqb e c ≡ false
-  has_not c e ds n m = ⊎_elim (λ (t : eqb e c ≡ true). absurd (both_ways (has c ds) n (ap (λ k. has k ds) (sym (eqb-true e c t)) ∙ m))) (λ (t : eqb e c ≡ false). t) (cases_Bool (eqb e c))
-
   -- other pixels of one client are a painting of its layer
   pub layers_altered : (c : ℕ) (cs : List ℕ) → distinct cs ≡ true → ((d : ℕ) → has d cs ≡ true → eqb d c ≡ false → Agree p px qx d)
       → layers_with depth p px cs ≡ alter c (with_pixels (layer_with depth p px c).pixels) (layers_with depth p qx cs)
@@ -57,7 +58,7 @@ module _ (depth : ℕ) (p : Plan) (px qx : Pixels) where
       go ih n true e =
           let same = eqb-true d c e in
           ap₂ ◌∷◌ (ap (λ k. with_pixels (layer_with depth p px k).pixels (layer_with depth p qx d)) same)
-          (layers_same ds (λ k m. h k (or_right _ _ m) (has_not c k ds (ap (λ z. has z ds) (sym same) ∙ n) m)))
+          (layers_same ds (λ k m. h k (or_right _ _ m) (ne_eqb k c (λ e. listed_apart d k ds n m (same ∙ sym e)))))
       go ih n false e = ap₂ ◌∷◌ (layer_same d (h d (or_left _ _ (eq-eqb d d refl)) e)) ih
 
 module _ (depth : ℕ) (p : Plan) (px : Pixels) where

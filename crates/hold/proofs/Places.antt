@@ -11,11 +11,13 @@ use Rattle.raster.specs.declared.size.Size.{Size}
 use Rattle.paper.specs.Layers.{Layer, covers, covered}
 use Rattle.paper.specs.Slots.{obscured, hidden, hidden_in, slots_of}
 use Rattle.paper.proofs.HiddenPixels.{covers_pixel}
-use Rattle.plan.specs.declared.frame.Frame.{Frame}
+use Rattle.raster.specs.declared.rectangle.Rectangle.{Rectangle}
 use Rattle.plan.specs.declared.plan.Plan.{Plan}
-use Rattle.plan.specs.declared.slots.Slots.{Slots}
+use Rattle.slots.specs.declared.slots.Slots.{Slots}
 use Rattle.plan.specs.Frames.{no_frame, has}
-use Rattle.plan.specs.Plans.{outline, outlines, listed, layers_in, frame_in, above, seen, patch_at, hidden_patch, Fits}
+use Rattle.plan.specs.Plans.{outline, outlines, listed, layers_in, frame_in, above, seen, patch_at, hidden_patch}
+use Rattle.slots.proofs.Spares.{slot_low, slots_apart}
+use Rattle.slots.specs.Tables.{has_slot, Fits}
 use Rattle.plan.proofs.Sifts.{open_low}
 use Rattle.plan.proofs.Patches.{any_of, hidden_open}
 use Rattle.hold.specs.declared.spot.Spot.{Spot}
@@ -25,7 +27,7 @@ use Rattle.hold.specs.Held.{Fitting, OwnPixel}
 
 -- ── The layers above one ──
 
-module _ (fs : List Frame) where
+module _ (fs : List Rectangle) where
   -- a listed client's layer is among those that cover a place that it covers
   pub covered_listed : (c : ℕ) (x y : ℤ) (cs : List ℕ) → has c cs ≡ true → covers (outline c (get_or fs c no_frame)) x y ≡ true → covered (outlines cs fs) x y ≡ true
   covered_listed c x y [] h k = absurd (false≢true h)
@@ -122,13 +124,15 @@ module _ (p : Plan) (c u v : ℕ) (o : OwnPixel p c u v) where
       λ k. hidden_in p.screen (layers_in p) (q.client k) (q.column k) (q.row k)
 
   -- An obscured pixel's patch has a slot.
-  pub slot_there : (t : Slots) → Fits p t → seen p c u v ≡ false → own_slot t c u v < t.places
-  slot_there t fits e =
+  pub slot_held : (t : Slots) → Fits p t → seen p c u v ≡ false → has_slot t (patch_at c (u / 16) (v / 16)) ≡ true
+  slot_held t fits e =
       let l = outline c (frame_in p c) in
       let ob : obscured p.screen (above c (layers_in p)) l u v ≡ true = and_from _ _ (and_from _ _ (lt-ltb u _ o.across) (lt-ltb v _ o.down)) (not_from_false _ e) in
-      ltb-true _ _
-      (fits (patch_at c (u / 16) (v / 16)) own_patch ∙ own_hidden ∙ hidden_open p.screen p.frames c (u / 16) (v / 16) (listed p) o.opened
-      ∙ obscured_hides p.screen (above c (layers_in p)) l u v ob)
+      fits (patch_at c (u / 16) (v / 16)) own_patch ∙ own_hidden ∙ hidden_open p.screen p.frames c (u / 16) (v / 16) (listed p) o.opened
+      ∙ obscured_hides p.screen (above c (layers_in p)) l u v ob
+
+  pub slot_there : (t : Slots) → Fits p t → seen p c u v ≡ false → own_slot t c u v < t.places
+  slot_there t fits e = slot_low t _ (slot_held t fits e)
 
 -- ── Within ──
 
@@ -202,25 +206,28 @@ same_square m n r s hr hs e = (omega arith, omega arith)
 whole : (u a : ℕ) → u / 16 ≡ a / 16 → u % 16 ≡ a % 16 → u ≡ a
 whole u a p q = omega arith
 
-store_apart : (width : ℕ) (p : Plan) (t : Slots) (c u v d a b : ℕ) → OwnPixel p c u v → OwnPixel p d a b → own_slot t c u v < t.places
+store_apart : (width : ℕ) (p : Plan) (t : Slots) (c u v d a b : ℕ) → OwnPixel p c u v → OwnPixel p d a b
+    → has_slot t (patch_at c (u / 16) (v / 16)) ≡ true → has_slot t (patch_at d (a / 16) (b / 16)) ≡ true
     → slot_x width (own_slot t c u v) + u % 16 ≡ slot_x width (own_slot t d a b) + a % 16
     → slot_y width (own_slot t c u v) + v % 16 ≡ slot_y width (own_slot t d a b) + b % 16
     → (c ≡ d) × (u ≡ a) × (v ≡ b)
-store_apart width p t c u v d a b o o' taken ex ey =
+store_apart width p t c u v d a b o o' held held' ex ey =
     let s = own_slot t c u v in
     let r = own_slot t d a b in
     let n = width / 16 in
     let qx = same_square (s % n) (r % n) (u % 16) (a % 16) (omega arith) (omega arith) ex in
     let qy = same_square (s / n) (r / n) (v % 16) (b % 16) (omega arith) (omega arith) ey in
     let same : s ≡ r = sym (div-add-mod s n) ∙ ap₂ (λ i j. n * i + j) qy.0 qx.0 ∙ div-add-mod r n in
-    let one : patch_at c (u / 16) (v / 16) ≡ patch_at d (a / 16) (b / 16) =
-    t.apart _ _ (record { one = own_patch p c u v o; other = own_patch p d a b o'; taken = taken; same = same }) in
+    let one : patch_at c (u / 16) (v / 16) ≡ patch_at d (a / 16) (b / 16) = slots_apart t _ _ held held' same in
     let k = patch_parts c (u / 16) (v / 16) (own_column p c u v o) (own_row p c u v o) in
     let l = patch_parts d (a / 16) (b / 16) (own_column p d a b o') (own_row p d a b o') in (
       sym k.client ∙ ap (λ i. i / 300) one ∙ l.client,
       whole u a (sym k.column ∙ ap (λ i. i % 300 % 20) one ∙ l.column) qx.1,
       whole v b (sym k.row ∙ ap (λ i. i % 300 / 20) one ∙ l.row) qy.1,
     )
+
+spots_differ : {x y a b : ℕ} → ◌≡◌ {A = Spot} (Screen x y) (Store a b) → ⊥
+spots_differ e = let z : ◌≡◌ {A = ℕ} 0 1 = cc in omega arith
 
 pub spots_apart : (width : ℕ) (p : Plan) (t : Slots) → Fits p t → (c u v d a b : ℕ) → OwnPixel p c u v → OwnPixel p d a b
     → spot_of width p t c u v ≡ spot_of width p t d a b → (c ≡ d) × (u ≡ a) × (v ≡ b)
@@ -236,7 +243,7 @@ spots_apart width p t fits c u v d a b o o' =
       within = ap₂ (λ x y. inside p.screen (pos x) (pos y)) (cc) (cc) ∙ s'.within;
       free = ap₂ (λ x y. covered (above d (layers_in p)) (pos x) (pos y)) (cc) (cc) ∙ s'.free;
     }))
-    (λ e' same. absurd (let z : ◌≡◌ {A = ℕ} 0 1 = cc in omega arith)))
+    (λ e' same. absurd (spots_differ same)))
     (λ e. spot_by width p t d a b (λ s. store_spot width t c u v ≡ s → (c ≡ d) × (u ≡ a) × (v ≡ b))
-    (λ e' same. absurd (let z : ◌≡◌ {A = ℕ} 0 1 = cc in omega arith))
-    (λ e' same. store_apart width p t c u v d a b o o' (slot_there p c u v o t fits e) (cc) (cc)))
+    (λ e' same. absurd (spots_differ (sym same)))
+    (λ e' same. store_apart width p t c u v d a b o o' (slot_held p c u v o t fits e) (slot_held p d a b o' t fits e') (cc) (cc)))

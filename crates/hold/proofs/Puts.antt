@@ -1,12 +1,12 @@
 -- A value put at the spot of a pixel: that pixel has it, and every other of an open layer stays.
-use Rattle.std.proofs.Common.{◌≡◌, ℕ, ◌%◌, ◌^◌, ◌<◌, Bool, true, false, cond, ◌&&◌, eqb, sym, refl, ap, ◌∙◌, ap₂, ⊎_elim, mod-eq_of_lt}
-use Rattle.std.proofs.lemmas.Bool.{true≢false, and_parts, and_from, eqb-true, eq-eqb, cases_Bool, cond-true, cond-false}
+use Rattle.std.proofs.Common.{◌≡◌, ℕ, ◌%◌, ◌^◌, ◌<◌, Bool, true, false, cond, ◌&&◌, eqb, sym, refl, ap, ◌∙◌, ap₂, mod-eq_of_lt}
+use Rattle.std.proofs.lemmas.Bool.{false_from_ne_true, true≢false, and_parts, and_from, eqb-true, eq-eqb, cond-true, cond-false}
 use Rattle.raster.specs.Picture.{Picture, sizes, painted, with_pixel}
 use Rattle.raster.specs.declared.size.Size.{Size}
 use Rattle.raster.proofs.Paints.{painted_sizes, painted_at}
 use Rattle.paper.specs.Slots.{slots_of}
 use Rattle.plan.specs.declared.plan.Plan.{Plan}
-use Rattle.plan.specs.declared.slots.Slots.{Slots}
+use Rattle.slots.specs.declared.slots.Slots.{Slots}
 use Rattle.hold.specs.declared.spot.Spot.{Spot}
 use Rattle.hold.specs.declared.spot.Spot.TheVariants.{Screen, Store}
 use Rattle.hold.specs.Spots.{spot_of, look, screen_with, store_with}
@@ -37,8 +37,7 @@ here p x y value = painted_at p _ _ x y ∙ cond-true _ _ _ (and_from _ _ (eq-eq
 pub elsewhere : (p : Picture) (x y value a b : ℕ) → ((a ≡ x) × (b ≡ y) → ⊥) → (with_pixel p x y value).at a b ≡ p.at a b
 elsewhere p x y value a b ne =
     painted_at p _ _ a b
-    ∙ ⊎_elim (λ (t : (eqb a x && eqb b y) ≡ true). let q = and_parts (eqb a x) (eqb b y) t in absurd (ne (eqb-true a x q.0, eqb-true b y q.1)))
-    (λ (t : (eqb a x && eqb b y) ≡ false). cond-false _ _ _ t) (cases_Bool (eqb a x && eqb b y))
+    ∙ cond-false _ _ _ (false_from_ne_true _ (λ t. let q = and_parts (eqb a x) (eqb b y) t in ne (eqb-true a x q.0, eqb-true b y q.1)))
 
 module _ (screen store : Picture) (value : ℕ) where
   pub look_here : value < 2 ^ screen.depth → (at : Spot) → look (screen_with screen at value) (store_with store at value) at ≡ value

@@ -1,22 +1,22 @@
 -- A covered place of the screen shows the topmost layer, so a screen on which only such places change follows the screen rule.
-use Rattle.std.proofs.Common.{◌≡◌, ℕ, ◌<◌, Bool, true, false, cond, not, ◌&&◌, ◌||◌, eqb, List, [], ◌∷◌, ℤ, pos, ◌+ℤ◌, ◌-ℤ◌, nat_abs, is_some, Some, None, Option, sym, refl, ap, ◌∙◌, ap₂, ⊎_elim, arith}
+use Rattle.std.proofs.Common.{◌≡◌, ℕ, ◌<◌, Bool, true, false, cond, not, ◌&&◌, ◌||◌, List, [], ◌∷◌, ℤ, pos, ◌+ℤ◌, ◌-ℤ◌, nat_abs, is_some, Some, None, Option, sym, refl, ap, ◌∙◌, ap₂, arith}
 use Rattle.std.proofs.lemmas.Int.{ints}
 use Rattle.std.proofs.lemmas.Bool.Decides.{nat_tests}
-use Rattle.std.proofs.lemmas.Bool.{both_ways, false≢true, and_parts, and_from, or_left, or_right, not-true, not_from_false, eqb-true, eq-eqb, lt-ltb, cases_Bool, cond-true}
+use Rattle.std.proofs.lemmas.Bool.{ne_eqb, both_ways, false≢true, and_parts, and_from, or_left, or_right, not-true, not_from_false, eq-eqb, lt-ltb, cond-true}
 use Rattle.raster.specs.Picture.{Picture, sizes, painted}
 use Rattle.raster.specs.Blt.{holds, inside}
 use Rattle.raster.specs.declared.size.Size.{Size}
 use Rattle.raster.proofs.Paints.{same_picture}
 use Rattle.paper.specs.Layers.{Layer, or_else, covers, covered, topmost, pixel_of, shown, screen_after}
 use Rattle.paper.proofs.Screen.{topmost_tells, none_topmost}
-use Rattle.plan.specs.declared.frame.Frame.{Frame}
+use Rattle.raster.specs.declared.rectangle.Rectangle.{Rectangle}
 use Rattle.plan.specs.declared.plan.Plan.{Plan}
-use Rattle.plan.specs.declared.slots.Slots.{Slots}
+use Rattle.slots.specs.declared.slots.Slots.{Slots}
 use Rattle.plan.specs.Frames.{has, distinct}
 use Rattle.plan.specs.Plans.{outline, outlines, listed, layers_in, frame_in, above, seen}
 use Rattle.hold.specs.Spots.{spot_of, screen_spot, store_spot, look}
 use Rattle.hold.specs.Held.{Pixels, layer_with, layers_with, held, paper_of, Fitting}
-use Rattle.hold.proofs.Papers.{covered_with, paper_covered}
+use Rattle.hold.proofs.Papers.{listed_apart, covered_with, paper_covered}
 
 shown_higher : (l : Layer) (ls : List Layer) (x y : ℤ) → covered ls x y ≡ true → shown (l ∷ ls) x y ≡ shown ls x y
 shown_higher l ls x y e = go (topmost ls x y) (sym (topmost_tells ls x y) ∙ e)
@@ -33,7 +33,7 @@ only_left true b e n = refl
 only_left false b e n = absurd (both_ways b n e)
 
 -- the layer's pixel at a place that it covers
-pub record PixelAt (f : Frame) (x y : ℕ) (u v : ℕ) : Type 0 where
+pub record PixelAt (f : Rectangle) (x y : ℕ) (u v : ℕ) : Type 0 where
   pub across : u < f.w
   pub down : v < f.h
   pub column : f.x +ℤ pos u ≡ pos x
@@ -42,7 +42,7 @@ pub record PixelAt (f : Frame) (x y : ℕ) (u v : ℕ) : Type 0 where
 axis_at : (a : ℤ) (n x : ℕ) → holds a n (pos x) ≡ true → (nat_abs (pos x -ℤ a) < n) × (a +ℤ pos (nat_abs (pos x -ℤ a)) ≡ pos x)
 axis_at a n x e = (grind (arith, ints, nat_tests), grind (arith, ints, nat_tests))
 
-pub pixel_at : (c : ℕ) (f : Frame) (x y : ℕ) → covers (outline c f) (pos x) (pos y) ≡ true → PixelAt f x y (nat_abs (pos x -ℤ f.x)) (nat_abs (pos y -ℤ f.y))
+pub pixel_at : (c : ℕ) (f : Rectangle) (x y : ℕ) → covers (outline c f) (pos x) (pos y) ≡ true → PixelAt f x y (nat_abs (pos x -ℤ f.x)) (nat_abs (pos y -ℤ f.y))
 pixel_at c f x y e =
     let q = and_parts (holds f.x f.w (pos x)) (holds f.y f.h (pos y)) e in
     let a = axis_at f.x f.w x q.0 in
@@ -63,10 +63,7 @@ module _ (depth : ℕ) (p : Plan) (px : Pixels) (x y value : ℕ) where
       below : has d ds ≡ false → Shows ds
       below n c u v m k free =
           s c u v (or_right _ _ m) k
-          (ap (λ b. covered (cond b (outlines ds p.frames) (above c (outlines ds p.frames))) (pos x) (pos y)) (apart n c m) ∙ free)
-        where
-          apart : has d ds ≡ false → (c : ℕ) → has c ds ≡ true → eqb d c ≡ false
-          apart n c m = ⊎_elim (λ (t : eqb d c ≡ true). absurd (both_ways (has d ds) n (ap (λ k. has k ds) (eqb-true d c t) ∙ m))) (λ (t : eqb d c ≡ false). t) (cases_Bool (eqb d c))
+          (ap (λ b. covered (cond b (outlines ds p.frames) (above c (outlines ds p.frames))) (pos x) (pos y)) (ne_eqb d c (listed_apart d c ds n m)) ∙ free)
 
       go : (Shows ds → covered (outlines ds p.frames) (pos x) (pos y) ≡ true → shown (layers_with depth p px ds) (pos x) (pos y) ≡ value) → has d ds ≡ false
           → (b : Bool) → covered (outlines ds p.frames) (pos x) (pos y) ≡ b → shown (layers_with depth p px (d ∷ ds)) (pos x) (pos y) ≡ value

@@ -5,9 +5,10 @@ use Rattle.paper.specs.Layers.{Layer, Desk, pane, screen_after}
 use Rattle.paper.specs.Slots.{slots_of}
 use Rattle.paper.specs.Desk.{repaint}
 use Rattle.plan.specs.declared.plan.Plan.{Plan}
-use Rattle.plan.specs.declared.slots.Slots.{Slots}
+use Rattle.slots.specs.declared.slots.Slots.{Slots}
 use Rattle.plan.specs.Frames.{has}
-use Rattle.plan.specs.Plans.{listed, frame_in, Fits}
+use Rattle.plan.specs.Plans.{listed, frame_in}
+use Rattle.slots.specs.Tables.{Fits}
 use Rattle.hold.specs.Spots.{spot_of, look, screen_with, store_with}
 
 -- The value of each pixel of each client's layer, by a function of client, column and row.

@@ -2,8 +2,9 @@
 use Rattle.std.specs.Prelude.{ℕ, ◌+◌, ◌*◌, ◌/◌, ◌%◌, ◌^◌, ◌<◌, cond, pos, ◌+ℤ◌, unsigned_abs}
 use Rattle.raster.specs.Picture.{Picture, with_pixel}
 use Rattle.plan.specs.declared.plan.Plan.{Plan}
-use Rattle.plan.specs.declared.slots.Slots.{Slots}
-use Rattle.plan.specs.Plans.{frame_in, seen, patch_at, slot_of}
+use Rattle.slots.specs.declared.slots.Slots.{Slots}
+use Rattle.plan.specs.Plans.{frame_in, seen, patch_at}
+use Rattle.slots.specs.Tables.{slot_of}
 use Rattle.hold.specs.declared.spot.Spot.{Spot}
 use Rattle.hold.specs.declared.spot.Spot.TheVariants.{Screen, Store}
 

@@ -1,42 +1,47 @@
 //! Where a pixel of a layer lies.
-ghost use Rattle.std.specs.Prelude.{◌≡◌, ◌+◌, ◌/◌, ◌%◌, ◌<◌, ◌≤◌, min, Some};
+ghost use Rattle.std.specs.Prelude.{◌≡◌, ◌/◌, ◌<◌, ◌≤◌, Some, SomeIff};
 ghost use Rattle.raster.specs.Picture.{Picture};
 ghost use Rattle.plan.specs.Plans.{patch_at};
 ghost use Rattle.hold.specs.Spots.{slot_x, slot_y, spot_of};
-ghost use Rattle.hold.specs.Held.{Fitting, OwnPixel};
+ghost use Rattle.hold.specs.Held.{Fitting};
+ghost use Rattle.hold.specs.Bitmaps.{HasPixel};
 
+use crate::layer::{Layer, Layout};
 use crate::spot::Spot;
-use plan::{Plan, Slots};
 
-/// The number of the patch that the pixel (u, v) of a client's layer is in; 2,400 if there is none.
-fn patch(c: u8, u: u16, v: u16) -> u16
-    ensures { result ≡ min (patch_at c (u / 16) (v / 16)) 2400 }
+/// The number of the patch that the pixel (u, v) of a client's layer is in, if there is one.
+fn patch(c: u8, u: u16, v: u16) -> Option<u16>
+    ensures { SomeIff result ((c < 8) × (u < 320) × (v < 240)) (patch_at c (u / 16) (v / 16)) }
 {
-    let number = 300 * c as u32 + 20 * (v / 16) as u32 + (u / 16) as u32;
-    number.min(2400) as u16
+    if c < 8 && u < 320 && v < 240 {
+        Some(300 * u16::from(c) + 20 * (v / 16) + u / 16)
+    } else {
+        None
+    }
 }
 
-/// The place of the pixel (u, v) in a slot of a store of a width, if there can be one.
-fn in_slot(slot: u16, width: u16, u: u16, v: u16) -> Option<Spot>
-    requires { slot < 4096 }
-    ensures { 16 ≤ width → result ≡ Some (Spot.Store (slot_x width slot + u % 16) (slot_y width slot + v % 16)) }
+/// The corner of a slot in a store of a width; none, if the store is narrower than a slot or the slot is past the last of any store.
+pub fn slot_corner(slot: u16, width: u16) -> Option<(u16, u16)>
+    ensures { SomeIff result ((16 ≤ width) × (slot < 4096)) (slot_x width slot, slot_y width slot) }
 {
     let across = width / 16;
-    if across == 0 {
+    if across == 0 || slot >= 4096 {
         return None;
     }
-    let x = 16 * (slot % across) + u % 16;
-    let y = 16 * (slot / across) + v % 16;
-    Some(Spot::Store(x, y))
+    Some((16 * (slot % across), 16 * (slot / across)))
 }
 
-/// Where the pixel (u, v) of a client's layer lies, with a store of a width; none, if it lies nowhere.
-pub(crate) fn find(plan: &Plan, slots: &Slots, width: u16, c: u8, u: u16, v: u16) -> Option<Spot>
-    ensures { (screen store : Picture) → Fitting screen store plan.now slots.now → store.width ≡ width → OwnPixel plan.now c u v → result ≡ Some (spot_of width plan.now slots.now c u v) }
-{
-    if let Some((x, y)) = plan.sees(c, u, v) {
-        return Some(Spot::Screen(x, y));
+impl Layer<'_> {
+    /// Where the pixel (u, v) lies, with a store of a width; none, if it lies nowhere.
+    pub(crate) fn find(self, width: u16, u: u16, v: u16) -> Option<Spot>
+        ensures { (screen store : Picture) → Fitting screen store self.entry.layout.plan.now self.entry.layout.slots.now → store.width ≡ width → HasPixel self.entry u v → result ≡ Some (spot_of width self.entry.layout.plan.now self.entry.layout.slots.now self.entry.client u v) }
+    {
+        let Layout { plan, slots } = self.layout;
+        if let Some((x, y)) = plan.sees(self.client, u, v) {
+            return Some(Spot::Screen(x, y));
+        }
+        let slot = slots.slot(patch(self.client, u, v)?)?;
+        let (x, y) = slot_corner(slot, width)?;
+        Some(Spot::Store(x + u % 16, y + v % 16))
     }
-    let slot = slots.slot(patch(c, u, v))?;
-    in_slot(slot, width, u, v)
 }

@@ -6,6 +6,7 @@ mod layer;
 mod single;
 mod spot;
 
-pub use layer::{masked, put_pixel, read_pixel};
-pub use single::{pixel, set_pixel};
+pub use find::slot_corner;
+pub use layer::{Layer, Layout, masked};
+pub use single::{coordinate, pixel, set_pixel};
 pub use spot::Spot;

@@ -5,21 +5,18 @@ ghost use Rattle.hold.specs.Spots.{Settable};
 
 use raster::Bitmap;
 
-/// A coordinate for a call of a bitmap; no bitmap reaches as far as 1024.
-fn coordinate(n: u16) -> i16
-    ensures { result ≡ pos (min n 1024) }
+/// A coordinate for a call of a bitmap; those past 32,767 lie outside of any bitmap, as that does.
+pub fn coordinate(n: u16) -> i16
+    ensures { result ≡ pos (min n 32767) }
 {
-    n.min(1024) as i16
+    i16::try_from(n).unwrap_or(i16::MAX)
 }
 
 /// The pixel at (x, y); 0 outside the bitmap.
 pub fn pixel<B: Bitmap>(bitmap: &B, x: u16, y: u16) -> u8
     ensures { result ≡ (B.Bitmap.picture bitmap.now).at x y }
 {
-    match bitmap.read(coordinate(x), coordinate(y)) {
-        Ok(value) => value,
-        Err(_) => 0,
-    }
+    bitmap.read(coordinate(x), coordinate(y)).unwrap_or(0)
 }
 
 /// Sets the pixel at (x, y), if the bitmap has it and it can have the value.

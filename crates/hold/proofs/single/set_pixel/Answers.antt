@@ -5,15 +5,14 @@ use Rattle.raster.proofs.Lawful.{bitmap_laws_lem}
 use Rattle.hold.proofs.Singles.{passed, write_cut}
 use Rattle.hold.proofs.single.set_pixel.Goals as goal
 
-pub returns : goal.returns
-returns g c =
+pub returns-clause-after : goal.returns-clause-after
+returns-clause-after g c =
     let a = c.args in
     let p = g.B.Bitmap.picture a.bitmap.now in
-    record {
-      after = λ s.
-          c.write.ensures.after
-          ∙ ap₂ (λ x y. bitmap_after p (write_at x y a.value)) (passed _ a.x c.coordinate.ensures) (passed _ a.y c.coordinate-2.ensures)
-          ∙ write_cut p (g.met.B.Bitmap.sound a.bitmap.now) a.x a.y a.value s;
-      size = ap sizes c.write.ensures.after ∙ bitmap_laws_lem.size_stays p _;
-      rest = c.write.ensures.rest;
-    }
+    λ s.
+    c.write.ensures.after
+    ∙ ap₂ (λ x y. bitmap_after p (write_at x y a.value)) (passed _ a.x c.coordinate.ensures) (passed _ a.y c.coordinate-2.ensures)
+    ∙ write_cut p (g.met.B.Bitmap.sound a.bitmap.now) a.x a.y a.value s
+
+pub returns-clause-size : goal.returns-clause-size
+returns-clause-size g c = ap sizes c.write.ensures.after ∙ bitmap_laws_lem.size_stays (g.B.Bitmap.picture c.args.bitmap.now) _

@@ -1,0 +1,49 @@
+//! Drawing on layers: blits painted and bitmaps stamped.
+ghost use Rattle.std.specs.Prelude.{◌≡◌};
+ghost use Rattle.raster.specs.Picture.{sizes};
+ghost use Rattle.raster.specs.Blt.{from_picture, count, blt};
+ghost use Rattle.raster.specs.declared.transfer.Transfer.{Transfer};
+ghost use Rattle.raster.specs.Blits.{performed};
+ghost use Rattle.hold.specs.Bitmaps.{layer_on, Draws};
+ghost use Rattle.draw.specs.Areas.{BlitWithin};
+ghost use Rattle.draw.specs.Stamps.{Stamps};
+
+use crate::blending::blend;
+use crate::source::Other;
+use hold::Layer;
+use raster::{Bitmap, Blit, Rule, Span};
+
+/// Performs a blit on a layer.
+pub fn paint<S: Bitmap, T: Bitmap>(screen: &mut S, store: &mut T, layer: Layer<'_>, blit: Blit)
+    ensures drawn { BlitWithin layer.entry.layout.plan.now layer.entry.client blit → Draws S.Bitmap T.Bitmap layer.entry screen.old store.old screen.new store.new (performed blit) }
+    ensures screen { S.Bitmap.keeps screen.old screen.new }
+    ensures store { T.Bitmap.keeps store.old store.new }
+{
+    let Blit {
+        rule,
+        ink,
+        columns,
+        rows,
+    } = blit;
+    blend(screen, store, layer, &ink, rule, columns, rows);
+}
+
+/// Stamps another bitmap on a layer: the rest of a BitBlt that is clipped to `columns` and `rows`; the count of pixels concerned.
+// Rule, columns and rows stay parameters: a struct of them would be made by the one caller and taken apart at once.
+pub fn stamp<S: Bitmap, T: Bitmap, B: Bitmap>(
+    screen: &mut S,
+    store: &mut T,
+    layer: Layer<'_>,
+    source: &B,
+    rule: Rule,
+    columns: Span,
+    rows: Span,
+) -> u32
+    ensures drawn { (t : Transfer) → Stamps layer.entry.layout.plan.now layer.entry.client t (sizes (B.Bitmap.picture source.now)) rule columns rows → Draws S.Bitmap T.Bitmap layer.entry screen.old store.old screen.new store.new (blt t (from_picture (B.Bitmap.picture source.now))) }
+    ensures count { (t : Transfer) → Stamps layer.entry.layout.plan.now layer.entry.client t (sizes (B.Bitmap.picture source.now)) rule columns rows → result ≡ count t (from_picture (B.Bitmap.picture source.now)) (sizes (layer_on S.Bitmap T.Bitmap layer.entry screen.old store.old)) }
+    ensures screen { S.Bitmap.keeps screen.old screen.new }
+    ensures store { T.Bitmap.keeps store.old store.new }
+{
+    blend(screen, store, layer, &Other(source), rule, columns, rows);
+    u32::from(rows.len) * u32::from(columns.len)
+}
