@@ -1,9 +1,9 @@
 -- Filling with 0, and blanking slot by slot.
-use Rattle.std.proofs.Common.{◌≡◌, ℕ, ◌+◌, ◌-◌, ◌*◌, ◌/◌, ◌%◌, ◌^◌, ◌<◌, ◌≤◌, Bool, true, false, cond, ◌&&◌, ltb, ℤ, pos, Some, None, Option, sym, refl, ap, ◌∙◌, subst, ap₂, ⊎_elim, mod-lt, mul_comm, div-lt_iff_lt-mul, arith}
-use Rattle.std.proofs.lemmas.Nat.{pow_pos}
+use Rattle.std.proofs.Common.{rules, tests, ◌≡◌, ◌≢◌, ℕ, ◌+◌, ◌-◌, ◌*◌, ◌/◌, ◌%◌, ◌^◌, ◌<◌, ◌≤◌, Bool, true, false, cond, ◌&&◌, ltb, ℤ, pos, Some, None, Option, sym, refl, ap, ◌∙◌, subst, ap₂, ⊎_elim, mod-lt, mul_comm, div-lt_iff_lt-mul, arith}
+use Rattle.std.proofs.lemmas.Nat.{mul-le, pow_pos}
 use Rattle.std.proofs.lemmas.Bool.Decides.{nat_tests}
 use Rattle.std.proofs.lemmas.Int.{ints}
-use Rattle.std.proofs.lemmas.Bool.{and_parts, and_from, both_ways, cond-true, cond-false, cases_Bool, cases_lt, lt-leb, lt-ltb, ltb-true}
+use Rattle.std.proofs.lemmas.Bool.{and_parts, and_from, both_ways, cond-true, cond-false, cases_Bool, cases_lt, lt-leb, ltb-true}
 use Rattle.raster.specs.Picture.{Picture, sizes, painted}
 use Rattle.raster.specs.Blt.{holds, in_rectangle, inside, concerned, everywhere, blt}
 use Rattle.raster.specs.Blits.{between}
@@ -12,16 +12,18 @@ use Rattle.raster.specs.declared.size.Size.{Size}
 use Rattle.raster.proofs.Accepts.{fill_accepted, after_accepted}
 use Rattle.raster.proofs.Lawful.{bitmap_laws_lem}
 use Rattle.raster.proofs.Paints.{painted_at, painted_same}
-use Rattle.plan.specs.declared.frame.Frame.{Frame}
-use Rattle.plan.specs.declared.slots.Slots.{Slots}
-use Rattle.plan.specs.Plans.{patch_at, slot_of, has_slot}
+use Rattle.raster.specs.declared.rectangle.Rectangle.{Rectangle}
+use Rattle.slots.proofs.Spares.{slot_low}
+use Rattle.slots.specs.declared.slots.Slots.{Slots}
+use Rattle.plan.specs.Plans.{patch_at}
+use Rattle.slots.specs.Tables.{slot_of, has_slot}
 use Rattle.hold.specs.Spots.{slot_x, slot_y, own_slot}
 use Rattle.hold.proofs.Places.{some_across}
 use Rattle.moving.proofs.Areas.{and_swap}
-use Rattle.moving.specs.Phases.{on_screen, in_slot, store_x, store_y, in_store, Blanked}
+use Rattle.moving.specs.Phases.{on_screen, in_slot, store_x, store_y, in_store}
 
 -- A rectangle filled with 0, by the rule that takes the source.
-pub filled_zero : (m : Picture) (f : Frame) → bitmap_after m (fill_with 3 0 f.x f.y f.w f.h) ≡ painted m (on_screen (sizes m) f) (λ _ _. 0)
+pub filled_zero : (m : Picture) (f : Rectangle) → bitmap_after m (fill_with 3 0 f.x f.y f.w f.h) ≡ painted m (on_screen (sizes m) f) (λ _ _. 0)
 unfolding blt concerned
 filled_zero m f =
     after_accepted m (fill_with 3 0 f.x f.y f.w f.h) (fill_accepted (sizes m) f.x f.y 3 0 f.w f.h refl (lt-leb (2 ^ m.depth) 0 (pow_pos m.depth)))
@@ -30,8 +32,7 @@ filled_zero m f =
     (λ x y h. bitmap_laws_lem.source_rule m.depth 0 (m.at x y) (pow_pos m.depth))
   where
     same : (a b : Bool) → (a && (b && true)) ≡ (a && b)
-    same a true = refl
-    same a false = refl
+    same a b = grind (arith, nat_tests)
 
 -- A slot of the store is a square in it.
 pub record Square (m : Picture) (k : ℕ) : Type 0 where
@@ -47,6 +48,10 @@ square m k h =
     let left : k % n < n = mod-lt k some in
     let up : k / n < j = (div-lt_iff_lt-mul some).1 (rw (mul_comm n j) at h) in
     record { wide = some; across = omega arith; down = omega arith }
+
+-- The slots of a store are no more than 4,096.
+pub slot_few : (m : Picture) → m.width ≤ 1024 → m.height ≤ 1024 → (k : ℕ) → k < (m.width / 16) * (m.height / 16) → k < 4096
+slot_few m w h k l = omega (arith, mul-le (m.width / 16) (m.height / 16) 64 64 (omega arith) (omega arith))
 
 pub slot_filled : (m : Picture) (k : ℕ) (zx zy : ℤ) → k < (m.width / 16) * (m.height / 16) → zx ≡ pos (slot_x m.width k) → zy ≡ pos (slot_y m.width k)
     → bitmap_after m (fill_with 3 0 zx zy 16 16) ≡ painted m (in_slot m.width k) (λ _ _. 0)
@@ -67,77 +72,61 @@ slot_filled m k zx zy h ex ey =
 
 -- ── Patch by patch ──
 
--- The number of the patch of a pixel within its layer.
-abbrev pub patch_within : (u v : ℕ) → ℕ
-patch_within u v = 20 * (v / 16) + u / 16
-
--- The store after the slots of the client's first n patches were set to 0.
+-- The store after the slots of the client's patches below number n were set to 0.
 pub record Blanking (t : Slots) (c n : ℕ) (before after : Picture) : Type 0 where
-  pub cleared : (u v : ℕ) → u < 320 → v < 240 → patch_within u v < n → in_store t c u v ≡ true → after.at (store_x before.width t c u v) (store_y before.width t c u v) ≡ 0
-  pub others : (a b : ℕ) → ((u v : ℕ) → u < 320 → v < 240 → patch_within u v < n → in_store t c u v ≡ true → a ≡ store_x before.width t c u v → b ≡ store_y before.width t c u v → ⊥)
+  pub cleared : (u v : ℕ) → u < 320 → v < 240 → patch_at c (u / 16) (v / 16) < n → in_store t c u v ≡ true → after.at (store_x before.width t c u v) (store_y before.width t c u v) ≡ 0
+  pub others : (a b : ℕ) → ((u v : ℕ) → u < 320 → v < 240 → patch_at c (u / 16) (v / 16) < n → in_store t c u v ≡ true → a ≡ store_x before.width t c u v → b ≢ store_y before.width t c u v)
       → after.at a b ≡ before.at a b
 
 -- the pixel of a patch that lies at a place of a square
-record PixelIn (i x y a b : ℕ) : Type 0 where
+record PixelIn (c n x y a b : ℕ) : Type 0 where
   u : ℕ
   v : ℕ
   column : u < 320
   row : v < 240
-  patch : patch_within u v ≡ i
+  patch : patch_at c (u / 16) (v / 16) ≡ n
   across : a ≡ x + u % 16
   down : b ≡ y + v % 16
 
-pixel_in : (i x y a b : ℕ) → i < 300 → (x ≤ a) × (a < x + 16) → (y ≤ b) × (b < y + 16) → PixelIn i x y a b
-pixel_in i x y a b h hx hy =
+pixel_in : (c n x y a b : ℕ) → 300 * c ≤ n → n < 300 * c + 300 → (x ≤ a) × (a < x + 16) → (y ≤ b) × (b < y + 16) → PixelIn c n x y a b
+pixel_in c n x y a b from to hx hy =
+    let i : ℕ = n - 300 * c in
+    let small : i < 300 = omega arith in
+    let here : n ≡ 300 * c + i = omega arith in
     let h0 = hx.0 in let h1 = hx.1 in let h2 = hy.0 in let h3 = hy.1 in
     record { u = 16 * (i % 20) + (a - x); v = 16 * (i / 20) + (b - y); column = omega arith; row = omega arith; patch = omega arith; across = omega arith; down = omega arith }
 
 module _ (t : Slots) (c : ℕ) (m : Picture) where
-  pub blank_none : Blanking t c 0 m m
-  blank_none = record { cleared = λ u v hu hv l k. absurd (omega arith); others = λ a b h. refl }
-
-  pub blank_all : (m' : Picture) → sizes m' ≡ sizes m → Blanking t c 300 m m' → Blanked t c m m'
-  blank_all m' e d = record {
-    size = e;
-    cleared = λ u v hu hv k. d.cleared u v hu hv (omega arith) k;
-    others = λ a b h. d.others a b (λ u v hu hv l k ea eb. h u v hu hv k ea eb);
-  }
-
-  -- the patch of a number, and its pixels
-  own_patch : (i u v : ℕ) → patch_within u v ≡ i → patch_at c (u / 16) (v / 16) ≡ 300 * c + i
-  own_patch i u v e = omega arith
-
-  module _ (i : ℕ) (m' : Picture) (small : i < 300) (d : Blanking t c i m m') where
+  module _ (n : ℕ) (m' : Picture) (from : 300 * c ≤ n) (to : n < 300 * c + 300) (d : Blanking t c n m m') where
     -- a patch without a slot
-    pub blank_skip : has_slot t (300 * c + i) ≡ false → Blanking t c (i + 1) m m'
-    blank_skip n = record {
-      cleared = λ u v hu hv l k. ⊎_elim (λ (h : patch_within u v < i). d.cleared u v hu hv h k) (λ (h : i ≤ patch_within u v).
-          let e : patch_within u v ≡ i = omega arith in
-          absurd (both_ways (in_store t c u v) (ap (has_slot t) (own_patch i u v e) ∙ n) k)) (cases_lt (patch_within u v) i);
+    pub blank_skip : has_slot t n ≡ false → Blanking t c (n + 1) m m'
+    blank_skip none = record {
+      cleared = λ u v hu hv l k. ⊎_elim (λ (h : patch_at c (u / 16) (v / 16) < n). d.cleared u v hu hv h k) (λ (h : n ≤ patch_at c (u / 16) (v / 16)).
+          let e : patch_at c (u / 16) (v / 16) ≡ n = omega arith in
+          absurd (both_ways (in_store t c u v) (ap (has_slot t) e ∙ none) k)) (cases_lt (patch_at c (u / 16) (v / 16)) n);
       others = λ a b h. d.others a b (λ u v hu hv l k ea eb. h u v hu hv (omega arith) k ea eb);
     }
 
     -- a patch with one
-    pub blank_one : (m'' : Picture) → has_slot t (300 * c + i) ≡ true → sizes m' ≡ sizes m → m'' ≡ painted m' (in_slot m'.width (slot_of t (300 * c + i))) (λ _ _. 0) → Blanking t c (i + 1) m m''
+    pub blank_one : (m'' : Picture) → has_slot t n ≡ true → sizes m' ≡ sizes m → m'' ≡ painted m' (in_slot m'.width (slot_of t n)) (λ _ _. 0) → Blanking t c (n + 1) m m''
     blank_one m'' k ew em = record {
       cleared = λ u v hu hv l q. there (store_x m.width t c u v) (store_y m.width t c u v) ∙ ⊎_elim
-          (λ (h : patch_within u v < i). either (in_slot m.width (slot_of t (300 * c + i)) (store_x m.width t c u v) (store_y m.width t c u v)) _ (d.cleared u v hu hv h q))
-          (λ (h : i ≤ patch_within u v).
-          let e : patch_within u v ≡ i = omega arith in
-          cond-true _ 0 _ (ap (λ n. in_slot m.width (slot_of t n) (store_x m.width t c u v) (store_y m.width t c u v)) (sym (own_patch i u v e))
-          ∙ and_from _ _ (in_square (slot_x m.width (own_slot t c u v)) (u % 16) (mod-lt u (omega arith))) (in_square (slot_y m.width (own_slot t c u v)) (v % 16) (mod-lt v (omega arith))))) (cases_lt (patch_within u v) i);
+          (λ (h : patch_at c (u / 16) (v / 16) < n). either (in_slot m.width (slot_of t n) (store_x m.width t c u v) (store_y m.width t c u v)) _ (d.cleared u v hu hv h q))
+          (λ (h : n ≤ patch_at c (u / 16) (v / 16)).
+          let e : patch_at c (u / 16) (v / 16) ≡ n = omega arith in
+          cond-true _ 0 _ (ap (λ p. in_slot m.width (slot_of t p) (store_x m.width t c u v) (store_y m.width t c u v)) (sym e)
+          ∙ and_from _ _ (in_square (slot_x m.width (own_slot t c u v)) (u % 16) (mod-lt u (omega arith))) (in_square (slot_y m.width (own_slot t c u v)) (v % 16) (mod-lt v (omega arith))))) (cases_lt (patch_at c (u / 16) (v / 16)) n);
       others = λ a b h. there a b ∙ ⊎_elim
-          (λ (e : in_slot m.width (slot_of t (300 * c + i)) a b ≡ true). absurd (inner a b h e))
-          (λ (e : in_slot m.width (slot_of t (300 * c + i)) a b ≡ false). cond-false _ 0 _ e ∙ d.others a b (λ u v hu hv l q ea eb. h u v hu hv (omega arith) q ea eb))
-          (cases_Bool (in_slot m.width (slot_of t (300 * c + i)) a b));
+          (λ (e : in_slot m.width (slot_of t n) a b ≡ true). absurd (inner a b h e))
+          (λ (e : in_slot m.width (slot_of t n) a b ≡ false). cond-false _ 0 _ e ∙ d.others a b (λ u v hu hv l q ea eb. h u v hu hv (omega arith) q ea eb))
+          (cases_Bool (in_slot m.width (slot_of t n) a b));
     }
       where
-        there : (a b : ℕ) → m''.at a b ≡ cond (in_slot m.width (slot_of t (300 * c + i)) a b) 0 (m'.at a b)
-        there a b = ap (λ (n : Picture). n.at a b) em ∙ painted_at m' _ _ a b ∙ ap (λ (z : Size). cond (in_slot z.width (slot_of t (300 * c + i)) a b) 0 (m'.at a b)) ew
+        there : (a b : ℕ) → m''.at a b ≡ cond (in_slot m.width (slot_of t n) a b) 0 (m'.at a b)
+        there a b = ap (λ (p : Picture). p.at a b) em ∙ painted_at m' _ _ a b ∙ ap (λ (z : Size). cond (in_slot z.width (slot_of t n) a b) 0 (m'.at a b)) ew
 
         either : (b : Bool) (n : ℕ) → n ≡ 0 → cond b 0 n ≡ 0
-        either true n e = refl
-        either false n e = e
+        either b n e = grind (arith, nat_tests)
 
         in_square : (first n : ℕ) → n < 16 → between first 16 (first + n) ≡ true
         in_square first n h = grind (arith, nat_tests)
@@ -145,45 +134,34 @@ module _ (t : Slots) (c : ℕ) (m : Picture) where
         parts : (first a : ℕ) → between first 16 a ≡ true → (first ≤ a) × (a < first + 16)
         parts first a e = (grind (arith, nat_tests), grind (arith, nat_tests))
 
-        inner : (a b : ℕ) → ((u v : ℕ) → u < 320 → v < 240 → patch_within u v < i + 1 → in_store t c u v ≡ true → a ≡ store_x m.width t c u v → b ≡ store_y m.width t c u v → ⊥)
-            → in_slot m.width (slot_of t (300 * c + i)) a b ≡ true → ⊥
+        inner : (a b : ℕ) → ((u v : ℕ) → u < 320 → v < 240 → patch_at c (u / 16) (v / 16) < n + 1 → in_store t c u v ≡ true → a ≡ store_x m.width t c u v → b ≢ store_y m.width t c u v)
+            → in_slot m.width (slot_of t n) a b ≡ true → ⊥
         inner a b h e =
-            let q = and_parts (between (slot_x m.width (slot_of t (300 * c + i))) 16 a) (between (slot_y m.width (slot_of t (300 * c + i))) 16 b) e in
-            let x : ℕ = slot_x m.width (slot_of t (300 * c + i)) in
-            let y : ℕ = slot_y m.width (slot_of t (300 * c + i)) in
-            let r = pixel_in i x y a b small (parts x a q.0) (parts y b q.1) in
-            let o : patch_at c (r.u / 16) (r.v / 16) ≡ 300 * c + i = own_patch i r.u r.v r.patch in
-            let last = r.patch in
-            h r.u r.v r.column r.row (omega arith) (ap (has_slot t) o ∙ k)
-            (r.across ∙ ap (λ n. slot_x m.width (slot_of t n) + r.u % 16) (sym o)) (r.down ∙ ap (λ n. slot_y m.width (slot_of t n) + r.v % 16) (sym o))
+            let x : ℕ = slot_x m.width (slot_of t n) in
+            let y : ℕ = slot_y m.width (slot_of t n) in
+            let q = and_parts (between x 16 a) (between y 16 b) e in
+            let r = pixel_in c n x y a b from to (parts x a q.0) (parts y b q.1) in
+            let own = r.patch in
+            h r.u r.v r.column r.row (omega arith) (ap (has_slot t) own ∙ k)
+            (r.across ∙ ap (λ p. slot_x m.width (slot_of t p) + r.u % 16) (sym own)) (r.down ∙ ap (λ p. slot_y m.width (slot_of t p) + r.v % 16) (sym own))
 
 -- the answer for a patch, of a client below 8
 pub slot_found : (t : Slots) (n k : ℕ) → Some k ≡ cond (ltb n 2400 && has_slot t n) (Some (slot_of t n)) None → (k ≡ slot_of t n) × (has_slot t n ≡ true)
-slot_found t n k e = go (ltb n 2400) (has_slot t n) e
-  where
-    go : (a b : Bool) → Some k ≡ cond (a && b) (Some (slot_of t n)) None → (k ≡ slot_of t n) × (b ≡ true)
-    go true true e = (cc, refl)
-    go true false e = absurd (let z : ◌≡◌ {A = ℕ} 0 1 = cc in omega arith)
-    go false b e = absurd (let z : ◌≡◌ {A = ℕ} 0 1 = cc in omega arith)
+slot_found t n k e = search (rules, tests)
 
 pub slot_missing : (t : Slots) (n : ℕ) (o : Option ℕ) → n < 2400 → o ≡ cond (ltb n 2400 && has_slot t n) (Some (slot_of t n)) None → ((k : ℕ) → o ≡ Some k → ⊥) → has_slot t n ≡ false
-slot_missing t n o h e none = go (has_slot t n) (e ∙ ap (λ b. cond (b && has_slot t n) (Some (slot_of t n)) None) (lt-ltb n 2400 h))
-  where
-    go : (b : Bool) → o ≡ cond b (Some (slot_of t n)) None → b ≡ false
-    go true e = absurd (none (slot_of t n) e)
-    go false e = refl
+slot_missing t n o h e none = search (rules, tests)
 
-module _ (t : Slots) (c i n : ℕ) (m m' : Picture) (few : t.places ≤ (m.width / 16) * (m.height / 16)) (low : c < 8) (small : i < 300) (en : n ≡ 300 * c + i) (size : sizes m' ≡ sizes m) (d : Blanking t c i m m') where
+module _ (t : Slots) (c n : ℕ) (m m' : Picture) (few : t.places ≤ (m.width / 16) * (m.height / 16)) (low : c < 8) (from : 300 * c ≤ n) (to : n < 300 * c + 300) (size : sizes m' ≡ sizes m) (d : Blanking t c n m m') where
   pub blank_turn : (k : ℕ) (m'' : Picture) → Some k ≡ cond (ltb n 2400 && has_slot t n) (Some (slot_of t n)) None
-      → (k < (m'.width / 16) * (m'.height / 16) → m'' ≡ painted m' (in_slot m'.width k) (λ _ _. 0)) → Blanking t c (i + 1) m m''
+      → (k < (m'.width / 16) * (m'.height / 16) → m'' ≡ painted m' (in_slot m'.width k) (λ _ _. 0)) → Blanking t c (n + 1) m m''
   blank_turn k m'' e h =
       let q = slot_found t n k e in
-      let ek : k ≡ slot_of t (300 * c + i) = q.0 ∙ ap (slot_of t) en in
-      let l : slot_of t n < t.places = ltb-true _ _ q.1 in
+      let l : slot_of t n < t.places = slot_low t n q.1 in
       let q0 = q.0 in
       let less : k < (m.width / 16) * (m.height / 16) = omega arith in
       let less' : k < (m'.width / 16) * (m'.height / 16) = subst (λ (z : Size). k < (z.width / 16) * (z.height / 16)) (sym size) less in
-      blank_one t c m i m' small d m'' (ap (has_slot t) (sym en) ∙ q.1) size (h less' ∙ ap (λ j. painted m' (in_slot m'.width j) (λ _ _. 0)) ek)
+      blank_one t c m n m' from to d m'' q.1 size (h less' ∙ ap (λ j. painted m' (in_slot m'.width j) (λ _ _. 0)) q0)
 
-  pub blank_past : (o : Option ℕ) → o ≡ cond (ltb n 2400 && has_slot t n) (Some (slot_of t n)) None → ((k : ℕ) → o ≡ Some k → ⊥) → Blanking t c (i + 1) m m'
-  blank_past o e none = blank_skip t c m i m' small d (ap (has_slot t) (sym en) ∙ slot_missing t n o (omega arith) e none)
+  pub blank_past : (o : Option ℕ) → o ≡ cond (ltb n 2400 && has_slot t n) (Some (slot_of t n)) None → ((k : ℕ) → o ≡ Some k → ⊥) → Blanking t c (n + 1) m m'
+  blank_past o e none = blank_skip t c m n m' from to d (slot_missing t n o (omega arith) e none)

@@ -9,7 +9,7 @@ use Rattle.raster.proofs.Paints.{painted_at, painted_sizes}
 use Rattle.paper.specs.Layers.{covered, topmost, screen_after}
 use Rattle.paper.proofs.Screen.{topmost_tells}
 use Rattle.plan.specs.declared.plan.Plan.{Plan}
-use Rattle.plan.specs.declared.slots.Slots.{Slots}
+use Rattle.slots.specs.declared.slots.Slots.{Slots}
 use Rattle.plan.specs.Frames.{has}
 use Rattle.plan.specs.Plans.{outline, listed, layers_in, frame_in, seen, patch_at, hidden_patch}
 use Rattle.plan.proofs.Sifts.{open_low}
@@ -108,7 +108,7 @@ module _ (p q : Plan) (t t' t'' : Slots) (c : ℕ) (px : Pixels) (s m m' m'' s' 
             blanked.others _ _ (λ u' v' a b k' ex ey.
             let wide : m'.width ≡ m.width = ap (λ (z : Size). z.width) stowed.size in
             let low : c < 8 = open_low q c opens in
-            both_ways (eqb d c) e (eq-eqb d c (one_place t' m.width d u v c u' v' r (record { client = low; column = a; row = b }) (unseen_stored o)
+            both_ways (eqb d c) e (eq-eqb d c (one_place t' m.width d u v c u' v' r (record { client = low; column = a; row = b }) (unseen_stored o) k'
             (ex ∙ ap (λ w. store_x w t' c u' v') wide) (ey ∙ ap (λ w. store_y w t' c u' v') wide)).0)) in
             in_slot o ∙ ap (λ n. n % 2 ^ s.depth) apart
             ∙ whole p q t t' t'' at px s m m' small holds slots work stowed d u v was hu' hv' (unseen_stored o)

@@ -1,18 +1,19 @@
 -- Raise, lower, close, move and open: at which places another layer may come to show, and the desk on paper after each.
 use Rattle.std.proofs.Common.{◌≡◌, ℕ, ◌*◌, ◌/◌, ◌%◌, ◌<◌, Bool, true, false, cond, not, ◌&&◌, ◌||◌, eqb, ltb, List, [], ◌∷◌, ◌++◌, get_or, ℤ, pos, is_some, Some, None, Option, sym, refl, ap, ◌∙◌, ap₂, ⊎_elim, arith}
 use Rattle.std.proofs.lemmas.Bool.Decides.{nat_tests}
-use Rattle.std.proofs.lemmas.Bool.{and_parts, and_from, and_cases, or_left, or_right, or_parts, or_from, or_cases, both_ways, eqb-true, eq-eqb, lt-ltb}
+use Rattle.std.proofs.lemmas.Bool.{and_parts, and_from, or_left, or_right, or_parts, or_from, or_cases, both_ways, eqb-true, eq-eqb, lt-ltb}
 use Rattle.raster.specs.Picture.{Picture}
 use Rattle.raster.specs.Blt.{inside}
 use Rattle.paper.specs.Layers.{Layer, with_layers, or_else, covers, covered, topmost, only, without, alter, at_corner}
 use Rattle.paper.specs.Desk.{change, open_layer, close_layer, raise_layer, lower_layer, move_layer, new_layer}
-use Rattle.paper.proofs.Screen.{none_topmost, topmost_tells}
+use Rattle.paper.proofs.Screen.{none_topmost, topmost_is, topmost_tells}
 use Rattle.paper.proofs.Layers.{or_else_none}
-use Rattle.plan.specs.declared.frame.Frame.{Frame}
+use Rattle.raster.specs.declared.rectangle.Rectangle.{Rectangle}
 use Rattle.plan.specs.declared.plan.Plan.{Plan}
-use Rattle.plan.specs.declared.slots.Slots.{Slots}
+use Rattle.slots.specs.declared.slots.Slots.{Slots}
 use Rattle.plan.specs.Frames.{no_frame, has}
-use Rattle.plan.specs.Plans.{outline, outlines, listed, layers_in, frame_in, patch_at, patch_of, has_slot}
+use Rattle.plan.specs.Plans.{outline, outlines, listed, layers_in, frame_in, patch_at, patch_of}
+use Rattle.slots.specs.Tables.{has_slot}
 use Rattle.hold.specs.Held.{Pixels, layers_with}
 use Rattle.hold.proofs.Places.{covered_listed}
 use Rattle.hold.proofs.Papers.{layers_same}
@@ -76,7 +77,7 @@ module _ (c : ℕ) (x y : ℤ) where
 
 -- ── A client's layer in an arrangement ──
 
-only_covered : (c : ℕ) (ds : List ℕ) (fs : List Frame) (x y : ℤ) → covers (outline c (get_or fs c no_frame)) x y ≡ false → covered (only c (outlines ds fs)) x y ≡ false
+only_covered : (c : ℕ) (ds : List ℕ) (fs : List Rectangle) (x y : ℤ) → covers (outline c (get_or fs c no_frame)) x y ≡ false → covered (only c (outlines ds fs)) x y ≡ false
 only_covered c [] fs x y n = refl
 only_covered c (d ∷ ds) fs x y n = go (only_covered c ds fs x y n) (eqb c d) refl
   where
@@ -92,9 +93,7 @@ module _ (p : Plan) (c x y : ℕ) where
 
   off_covers : inside p.screen (pos x) (pos y) ≡ true → on_screen p.screen (frame_in p c) x y ≡ false → covered (only c (layers_in p)) (pos x) (pos y) ≡ false
   off_covers i n =
-      only_covered c (listed p) p.frames (pos x) (pos y)
-      (⊎_elim (λ (k : covers (outline c (frame_in p c)) (pos x) (pos y) ≡ false). k) (λ (k : inside p.screen (pos x) (pos y) ≡ false). absurd (both_ways _ k i))
-      (and_cases (covers (outline c (frame_in p c)) (pos x) (pos y)) (inside p.screen (pos x) (pos y)) n))
+      only_covered c (listed p) p.frames (pos x) (pos y) (grind (arith, nat_tests))
 
 -- ── The places that a call works on ──
 
@@ -135,11 +134,10 @@ module _ (p q : Plan) (c : ℕ) (screens : q.screen ≡ p.screen) (was : has c (
   }
 
 -- A new layer works on its frame, where it is topmost.
-module _ (p q : Plan) (c : ℕ) (f : Frame) (screens : q.screen ≡ p.screen) (e : layers_in q ≡ layers_in p ++ (outline c f ∷ [])) where
+module _ (p q : Plan) (c : ℕ) (f : Rectangle) (screens : q.screen ≡ p.screen) (e : layers_in q ≡ layers_in p ++ (outline c f ∷ [])) where
   pub opened_topmost : (x y : ℕ) → on_screen p.screen f x y ≡ true → topmost (layers_in q) (pos x) (pos y) ≡ Some (outline c f)
   opened_topmost x y h =
-      let k : covers (outline c f) (pos x) (pos y) ≡ true = (and_parts (covers (outline c f) (pos x) (pos y)) _ h).0 in
-      ap (λ ls. topmost ls (pos x) (pos y)) e ∙ topmost-++ (layers_in p) (outline c f ∷ []) (pos x) (pos y) ∙ ap (λ b. or_else (cond b (Some (outline c f)) None) (topmost (layers_in p) (pos x) (pos y))) k
+      ap (λ ls. topmost ls (pos x) (pos y)) e ∙ topmost_is (layers_in p) [] (outline c f) (pos x) (pos y) (and_parts (covers (outline c f) (pos x) (pos y)) _ h).0 refl
 
   pub opened_same_off : Worked p q (on_screen p.screen f)
   opened_same_off = record {
@@ -147,7 +145,7 @@ module _ (p q : Plan) (c : ℕ) (f : Frame) (screens : q.screen ≡ p.screen) (e
     on = λ x y h. (and_parts (covers (outline c f) (pos x) (pos y)) _ h).1;
     under = λ x y h. or_right (covered (layers_in p) (pos x) (pos y)) _ (topmost_tells (layers_in q) (pos x) (pos y) ∙ ap is_some (opened_topmost x y h));
     off = λ x y i n.
-        let k : covers (outline c f) (pos x) (pos y) ≡ false = ⊎_elim (λ (k : covers (outline c f) (pos x) (pos y) ≡ false). k) (λ (k : inside p.screen (pos x) (pos y) ≡ false). absurd (both_ways _ k i)) (and_cases (covers (outline c f) (pos x) (pos y)) (inside p.screen (pos x) (pos y)) n) in
+        let k : covers (outline c f) (pos x) (pos y) ≡ false = grind (arith, nat_tests) in
         ap (λ ls. topmost ls (pos x) (pos y)) e ∙ topmost-++ (layers_in p) (outline c f ∷ []) (pos x) (pos y) ∙ ap (λ b. or_else (cond b (Some (outline c f)) None) (topmost (layers_in p) (pos x) (pos y))) k;
   }
 
@@ -156,9 +154,9 @@ module _ (p q : Plan) (c : ℕ) (f : Frame) (screens : q.screen ≡ p.screen) (e
 pub stays_still : (p q : Plan) (t' : Slots) (d : ℕ) → has d (listed p) ≡ true → frame_in q d ≡ frame_in p d → Stays p q t' d
 stays_still p q t' d h e = record {
   was = h;
-  width = ap (λ (f : Frame). f.w) e;
-  height = ap (λ (f : Frame). f.h) e;
-  fixed = λ u v hu hv n. (ap (λ (f : Frame). f.x) e, ap (λ (f : Frame). f.y) e);
+  width = ap (λ (f : Rectangle). f.w) e;
+  height = ap (λ (f : Rectangle). f.h) e;
+  fixed = λ u v hu hv n. (ap (λ (f : Rectangle). f.x) e, ap (λ (f : Rectangle). f.y) e);
 }
 
 -- A layer is moved where each of its patches has a slot on the way.
@@ -204,7 +202,7 @@ module _ (s m : Picture) (p q : Plan) (c : ℕ) (px : Pixels) where
   moved_paper a b e = with_layers_in _ e ∙ dressed_p (alter c (at_corner a b)) _ (dress_alter s.depth px c a b (layers_in p))
 
 -- A new layer is 0, and the other layers keep their pixels.
-pub opened_paper : (s m : Picture) (p q : Plan) (c : ℕ) (f : Frame) (px : Pixels) → has c (listed p) ≡ false → layers_in q ≡ layers_in p ++ (outline c f ∷ [])
+pub opened_paper : (s m : Picture) (p q : Plan) (c : ℕ) (f : Rectangle) (px : Pixels) → has c (listed p) ≡ false → layers_in q ≡ layers_in p ++ (outline c f ∷ [])
     → desk_with s m q (fresh c px) ≡ change (desk_with s m p px) (open_layer c f.x f.y f.w f.h)
 opened_paper s m p q c f px none e =
     ap (with_layers (desk_with s m p px))
@@ -222,8 +220,7 @@ opened_paper s m p q c f px none e =
     nothing u v = ap (λ b. cond (ltb u f.w && ltb v f.h) (cond b 0 (px c u v)) 0) (same_client c) ∙ either (ltb u f.w && ltb v f.h)
       where
         either : (b : Bool) → cond {A = ℕ} b 0 0 ≡ 0
-        either true = refl
-        either false = refl
+        either b = grind (arith, nat_tests)
 
     zeros : dressed s.depth (fresh c px) (outline c f) ≡ new_layer s.depth c f.x f.y f.w f.h
     zeros = λ i. record { client = c; x = f.x; y = f.y; pixels = record { width = f.w; height = f.h; depth = s.depth; at = λ u v. nothing u v i } }

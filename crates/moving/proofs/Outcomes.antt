@@ -1,14 +1,15 @@
 -- What each call comes to, on paper and on the screen.
-use Rattle.std.proofs.Common.{◌≡◌, ℕ, Bool, true, false, not, ◌||◌, eqb, [], ◌∷◌, ◌++◌, pos, Some, sym, refl, ap, ◌∙◌, subst, ap₂, ⊎_elim}
-use Rattle.std.proofs.lemmas.Bool.{and_parts, or_cases, or_right, eqb-true, eqb-false, cases_Bool}
+use Rattle.std.proofs.Common.{arith, ◌≡◌, ℕ, Bool, true, false, not, ◌||◌, eqb, [], ◌∷◌, ◌++◌, pos, Some, sym, refl, ap, ◌∙◌, subst, ap₂, ⊎_elim}
+use Rattle.std.proofs.lemmas.Bool.Decides.{nat_tests}
+use Rattle.std.proofs.lemmas.Bool.{and_parts, or_right, eqb-true, eqb-false, cases_Bool}
 use Rattle.raster.specs.Picture.{Picture, sizes, painted}
 use Rattle.raster.specs.Calls.{fill_with, bitmap_after}
 use Rattle.raster.specs.declared.size.Size.{Size}
 use Rattle.paper.specs.Layers.{Desk, topmost, screen_after}
 use Rattle.paper.specs.Desk.{change, open_layer, close_layer, raise_layer, lower_layer, move_layer}
-use Rattle.plan.specs.declared.frame.Frame.{Frame}
+use Rattle.raster.specs.declared.rectangle.Rectangle.{Rectangle}
 use Rattle.plan.specs.declared.plan.Plan.{Plan}
-use Rattle.plan.specs.declared.slots.Slots.{Slots}
+use Rattle.slots.specs.declared.slots.Slots.{Slots}
 use Rattle.plan.specs.Frames.{has}
 use Rattle.plan.specs.Plans.{outline, listed, layers_in, frame_in}
 use Rattle.plan.specs.Arranged.{Arranged, SameFrames, OtherFrames, can_open}
@@ -62,7 +63,7 @@ on_paper : (s m : Picture) (p : Plan) (t : Slots) (f : Desk → Desk) (d : Desk)
 on_paper s m p t f d e = e ∙ ap f (sym (paper_is s m p t))
 
 -- a new layer
-opens : (s m m₁ s' m' : Picture) (p q : Plan) (t t' t'' : Slots) (c : ℕ) (f : Frame) → Begins s m p q t t' t'' → can_open p c f ≡ true
+opens : (s m m₁ s' m' : Picture) (p q : Plan) (t t' t'' : Slots) (c : ℕ) (f : Rectangle) → Begins s m p q t t' t'' → can_open p c f ≡ true
     → Arranged p q (layers_in p ++ (outline c f ∷ [])) (λ d. has d (listed p) || eqb c d) → OtherFrames c p q → frame_in q c ≡ f
     → Stowed s p t' (on_screen p.screen f) m m₁ → Blanked t' c m₁ m' → s' ≡ bitmap_after s (fill_with 3 0 f.x f.y f.w f.h)
     → Leaves s m p t s' m' q t'' (change (paper_of s m p t) (open_layer c f.x f.y f.w f.h))
@@ -72,11 +73,11 @@ opens s m m₁ s' m' p q t t' t'' c f b can a others own st bl re =
     let is : has c (listed q) ≡ true = a.clients c ∙ or_right (has c (listed p)) (eqb c c) (same_client c) in
     let holds : Holds s m p t px = λ c h u v hu hv. refl in
     let small = b.sound.values in
-    let work : Worked p q (on_screen p.screen (frame_in q c)) = subst (λ (g : Frame). Worked p q (on_screen p.screen g)) (sym own) (opened_same_off p q c f a.screen a.layers) in
-    let stowed : Stowed s p t' (on_screen p.screen (frame_in q c)) m m₁ = subst (λ (g : Frame). Stowed s p t' (on_screen p.screen g) m m₁) (sym own) st in
-    let zeros : s' ≡ painted s (on_screen p.screen (frame_in q c)) (λ _ _. 0) = re ∙ filled_zero s f ∙ ap₂ (λ (z : Size) (g : Frame). painted s (on_screen z g) (λ _ _. 0)) (sym b.fitting.sized) (sym own) in
+    let work : Worked p q (on_screen p.screen (frame_in q c)) = subst (λ (g : Rectangle). Worked p q (on_screen p.screen g)) (sym own) (opened_same_off p q c f a.screen a.layers) in
+    let stowed : Stowed s p t' (on_screen p.screen (frame_in q c)) m m₁ = subst (λ (g : Rectangle). Stowed s p t' (on_screen p.screen g) m m₁) (sym own) st in
+    let zeros : s' ≡ painted s (on_screen p.screen (frame_in q c)) (λ _ _. 0) = re ∙ filled_zero s f ∙ ap₂ (λ (z : Size) (g : Rectangle). painted s (on_screen z g) (λ _ _. 0)) (sym b.fitting.sized) (sym own) in
     let top : (x y : ℕ) → on_screen p.screen (frame_in q c) x y ≡ true → topmost (layers_in q) (pos x) (pos y) ≡ Some (outline c (frame_in q c)) =
-    subst (λ (g : Frame). (x y : ℕ) → on_screen p.screen g x y ≡ true → topmost (layers_in q) (pos x) (pos y) ≡ Some (outline c g)) (sym own) (opened_topmost p q c f a.screen a.layers) in
+    subst (λ (g : Rectangle). (x y : ℕ) → on_screen p.screen g x y ≡ true → topmost (layers_in q) (pos x) (pos y) ≡ Some (outline c g)) (sym own) (opened_topmost p q c f a.screen a.layers) in
     let stays : (d : ℕ) → has d (listed q) ≡ true → eqb d c ≡ false → Stays p q t' d = λ d h n. stays_still p q t' d (known d h n) (others d (eqb-false d c n)) in
     outcome s m s' m' p q t t' t'' b (fresh c px) _
     (opened p q t t' t'' c px s m m₁ m' s' small holds b.slots work stowed bl zeros is top stays)
@@ -87,7 +88,7 @@ opens s m m₁ s' m' p q t t' t'' c f b can a others own st bl re =
   where
     known : (d : ℕ) → has d (listed q) ≡ true → eqb d c ≡ false → has d (listed p) ≡ true
     known d h n =
-        ⊎_elim (λ (i : has d (listed p) ≡ true). i) (λ (i : eqb c d ≡ true). absurd (eqb-false d c n (sym (eqb-true c d i)))) (or_cases (has d (listed p)) (eqb c d) (sym (a.clients d) ∙ h))
+        let k = a.clients d in grind (arith, nat_tests, k, h, n)
 
 pub moving_laws_lem : MovingLaws
 moving_laws_lem = record {
@@ -107,7 +108,7 @@ moving_laws_lem = record {
       through s m s' m' p q t t' t'' b (λ i j. on_screen p.screen (frame_in p c) i j || on_screen p.screen (frame_in q c) i j) _
       (moved_same_off p q c a.screen h x y a.layers (a.clients c ∙ h))
       (λ d i. ⊎_elim (λ (e : eqb d c ≡ true).
-      subst (Stays p q t') (sym (eqb-true d c e)) (stays_moved p q t' c h (a.clients c ∙ h) (ap (λ (g : Frame). g.w) own) (ap (λ (g : Frame). g.h) own) all))
+      subst (Stays p q t') (sym (eqb-true d c e)) (stays_moved p q t' c h (a.clients c ∙ h) (ap (λ (g : Rectangle). g.w) own) (ap (λ (g : Rectangle). g.h) own) all))
       (λ (e : eqb d c ≡ false). stays_still p q t' d (sym (a.clients d) ∙ i) (f d (eqb-false d c e))) (cases_Bool (eqb d c)))
       (stowed_join s p t' (on_screen p.screen (frame_in p c)) (on_screen p.screen (frame_in q c)) m m₁ m' st st')
       (re' ∙ ap (repainted m' q t' (on_screen q.screen (frame_in q c))) re ∙ repainted_join m' q t' (on_screen q.screen (frame_in p c)) (on_screen q.screen (frame_in q c)) s

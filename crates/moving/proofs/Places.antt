@@ -1,5 +1,5 @@
 -- Which layer shows at a screen place, and where its pixel lies in the store.
-use Rattle.std.proofs.Common.{◌≡◌, ℕ, ◌+◌, ◌*◌, ◌/◌, ◌%◌, ◌<◌, ◌≤◌, Bool, true, false, cond, not, ◌||◌, eqb, ltb, List, [], ◌∷◌, get_or, ℤ, pos, ◌+ℤ◌, ◌-ℤ◌, nat_abs, is_some, Some, None, Option, sym, refl, ap, ◌∙◌, subst, ap₂, mod-lt, mul_comm, div-lt_iff_lt-mul, arith}
+use Rattle.std.proofs.Common.{rules, tests, ◌≡◌, ℕ, ◌+◌, ◌*◌, ◌/◌, ◌%◌, ◌<◌, ◌≤◌, Bool, true, false, cond, not, ◌||◌, eqb, ltb, List, [], ◌∷◌, get_or, ℤ, pos, ◌+ℤ◌, ◌-ℤ◌, nat_abs, is_some, Some, None, Option, sym, refl, ap, ◌∙◌, subst, ap₂, mod-lt, mul_comm, div-lt_iff_lt-mul, arith}
 use native.Mathlib.Nat.{div-add-mod}
 use Rattle.std.proofs.lemmas.Int.{ints}
 use Rattle.std.proofs.lemmas.Bool.Decides.{nat_tests}
@@ -12,12 +12,13 @@ use Rattle.paper.specs.Slots.{slots_of}
 use Rattle.paper.specs.Desk.{client_if}
 use Rattle.paper.proofs.Screen.{topmost_tells, none_topmost}
 use Rattle.paper.proofs.HiddenPixels.{covers_pixel}
-use Rattle.plan.specs.declared.frame.Frame.{Frame}
+use Rattle.raster.specs.declared.rectangle.Rectangle.{Rectangle}
 use Rattle.plan.specs.declared.plan.Plan.{Plan}
-use Rattle.plan.specs.declared.slots.Slots.{Slots}
+use Rattle.slots.specs.declared.slots.Slots.{Slots}
 use Rattle.plan.specs.Frames.{no_frame, has, distinct}
 use Rattle.plan.specs.Plans.{outline, outlines, listed, layers_in, frame_in, above, seen, patch_at}
 use Rattle.plan.proofs.Sifts.{open_low}
+use Rattle.slots.proofs.Spares.{slot_low, slots_apart}
 use Rattle.hold.specs.Spots.{own_slot}
 use Rattle.hold.proofs.Places.{some_across}
 use Rattle.moving.specs.declared.backing.Backing.TheVariants.{Bare, Alone, Kept}
@@ -29,7 +30,7 @@ same_client c = eq-eqb c c refl
 -- ── The topmost layer ──
 
 -- The topmost layer at a place: its client is listed, it is that client's, it covers the place, and none above it does.
-pub record Tops (ds : List ℕ) (fs : List Frame) (x y : ℤ) (l : Layer) : Type 0 where
+pub record Tops (ds : List ℕ) (fs : List Rectangle) (x y : ℤ) (l : Layer) : Type 0 where
   pub listed : has l.client ds ≡ true
   pub own : l ≡ outline l.client (get_or fs l.client no_frame)
   pub covers : covers l x y ≡ true
@@ -37,13 +38,9 @@ pub record Tops (ds : List ℕ) (fs : List Frame) (x y : ℤ) (l : Layer) : Type
 
 -- the client of a later place in a list without repeats is another
 other_client : (c d : ℕ) (ds : List ℕ) → not (has c ds) ≡ true → has d ds ≡ true → eqb c d ≡ false
-other_client c d ds n h = go (eqb c d) refl
-  where
-    go : (b : Bool) → eqb c d ≡ b → b ≡ false
-    go true e = absurd (both_ways (has d ds) (ap (λ k. has k ds) (sym (eqb-true c d e)) ∙ not-true _ n) h)
-    go false e = refl
+other_client c d ds n h = grind (arith, nat_tests)
 
-tops_later : (c : ℕ) (ds : List ℕ) (fs : List Frame) (x y : ℤ) (l : Layer) → Tops ds fs x y l → Tops (c ∷ ds) fs x y l
+tops_later : (c : ℕ) (ds : List ℕ) (fs : List Rectangle) (x y : ℤ) (l : Layer) → Tops ds fs x y l → Tops (c ∷ ds) fs x y l
 tops_later c ds fs x y l t = record {
   listed = or_right (eqb c l.client) (has l.client ds) t.listed;
   own = t.own;
@@ -53,7 +50,7 @@ tops_later c ds fs x y l t = record {
       ap (λ b. covered (cond b (outlines ds fs) (above l.client (outlines ds fs))) x y) (other_client c l.client ds q.0 t.listed) ∙ t.free q.1;
 }
 
-tops_first : (c : ℕ) (ds : List ℕ) (fs : List Frame) (x y : ℤ) → covers (outline c (get_or fs c no_frame)) x y ≡ true → covered (outlines ds fs) x y ≡ false
+tops_first : (c : ℕ) (ds : List ℕ) (fs : List Rectangle) (x y : ℤ) → covers (outline c (get_or fs c no_frame)) x y ≡ true → covered (outlines ds fs) x y ≡ false
     → Tops (c ∷ ds) fs x y (outline c (get_or fs c no_frame))
 tops_first c ds fs x y k n = record {
   listed = or_left (eqb c c) (has c ds) (same_client c);
@@ -62,7 +59,7 @@ tops_first c ds fs x y k n = record {
   free = λ o. ap (λ b. covered (cond b (outlines ds fs) (above c (outlines ds fs))) x y) (same_client c) ∙ n;
 }
 
-pub top_is : (ds : List ℕ) (fs : List Frame) (x y : ℤ) (l : Layer) → topmost (outlines ds fs) x y ≡ Some l → Tops ds fs x y l
+pub top_is : (ds : List ℕ) (fs : List Rectangle) (x y : ℤ) (l : Layer) → topmost (outlines ds fs) x y ≡ Some l → Tops ds fs x y l
 top_is [] fs x y l e = absurd (let z : ◌≡◌ {A = ℕ} 0 1 = cc in omega arith)
 top_is (c ∷ ds) fs x y l e = go (top_is ds fs x y l) (topmost (outlines ds fs) x y) refl (covers (outline c (get_or fs c no_frame)) x y) refl e
   where
@@ -75,7 +72,7 @@ top_is (c ∷ ds) fs x y l e = go (top_is ds fs x y l) (topmost (outlines ds fs)
     go ih None eo false eb q = absurd (let z : ◌≡◌ {A = ℕ} 0 1 = cc in omega arith)
 
 -- and back
-pub is_top : (ds : List ℕ) (fs : List Frame) (x y : ℤ) (d : ℕ) → has d ds ≡ true → covers (outline d (get_or fs d no_frame)) x y ≡ true
+pub is_top : (ds : List ℕ) (fs : List Rectangle) (x y : ℤ) (d : ℕ) → has d ds ≡ true → covers (outline d (get_or fs d no_frame)) x y ≡ true
     → covered (above d (outlines ds fs)) x y ≡ false → topmost (outlines ds fs) x y ≡ Some (outline d (get_or fs d no_frame))
 is_top [] fs x y d h k n = absurd (both_ways false refl h)
 is_top (c ∷ ds) fs x y d h k n = go (λ h n. is_top ds fs x y d h k n) (eqb c d) refl h n
@@ -131,17 +128,16 @@ pub real_patch : (c u v : ℕ) → Real c u v → patch_at c (u / 16) (v / 16) <
 real_patch c u v r = omega arith
 
 -- Two pixels with one place in the store are one.
-pub one_place : (t : Slots) (width c u v c' u' v' : ℕ) → Real c u v → Real c' u' v' → in_store t c u v ≡ true
+pub one_place : (t : Slots) (width c u v c' u' v' : ℕ) → Real c u v → Real c' u' v' → in_store t c u v ≡ true → in_store t c' u' v' ≡ true
     → store_x width t c u v ≡ store_x width t c' u' v' → store_y width t c u v ≡ store_y width t c' u' v' → (c ≡ c') × (u ≡ u') × (v ≡ v')
-one_place t width c u v c' u' v' r r' k ex ey =
+one_place t width c u v c' u' v' r r' k k' ex ey =
     let s : ℕ = own_slot t c u v in
     let s' : ℕ = own_slot t c' u' v' in
     let n : ℕ = width / 16 in
     let a = sixteen (s % n) (s' % n) (u % 16) (u' % 16) (below_16 u) (below_16 u') ex in
     let b = sixteen (s / n) (s' / n) (v % 16) (v' % 16) (below_16 v) (below_16 v') ey in
     let e : s ≡ s' = sym (div-add-mod s n) ∙ ap₂ (λ q r. n * q + r) b.0 a.0 ∙ div-add-mod s' n in
-    let same = t.apart (patch_at c (u / 16) (v / 16)) (patch_at c' (u' / 16) (v' / 16))
-    (record { one = real_patch c u v r; other = real_patch c' u' v' r'; taken = ltb-true _ _ k; same = e }) in
+    let same = slots_apart t (patch_at c (u / 16) (v / 16)) (patch_at c' (u' / 16) (v' / 16)) k k' e in
     let q = same_patch c (u / 16) (v / 16) c' (u' / 16) (v' / 16) (omega arith) (omega arith) (omega arith) (omega arith) same in
     let q0 = q.0 in let q1 = q.1 in let q2 = q.2 in let a1 = a.1 in let b1 = b.1 in
     (q0, omega arith, omega arith)
@@ -153,8 +149,7 @@ pub record Within (screen store : Picture) (a b : ℕ) : Type 0 where
   pub deep : screen.depth ≤ store.depth
 
 some_slot : (deep : Bool) (s n : ℕ) → s < cond deep 0 n → (deep ≡ false) × (s < n)
-some_slot true s n h = absurd (omega arith)
-some_slot false s n h = (refl, h)
+some_slot deep s n h = (grind (arith, nat_tests), grind (arith, nat_tests))
 
 pub place_within : (screen store : Picture) (t : Slots) (c u v : ℕ) → t.places ≡ slots_of (sizes store) screen.depth → in_store t c u v ≡ true
     → Within screen store (store_x store.width t c u v) (store_y store.width t c u v)
@@ -162,7 +157,7 @@ place_within screen store t c u v e k =
     let s : ℕ = own_slot t c u v in
     let n : ℕ = store.width / 16 in
     let m : ℕ = store.height / 16 in
-    let h : s < slots_of (sizes store) screen.depth = rw e at (ltb-true s t.places k) in
+    let h : s < slots_of (sizes store) screen.depth = rw e at (slot_low t (patch_at c (u / 16) (v / 16)) k) in
     let q = some_slot (ltb store.depth screen.depth) s (n * m) h in
     let q0 = q.0 in
     let some : 0 < n = some_across s n m q.1 in
@@ -186,7 +181,7 @@ pub top_shows : (p : Plan) (x y : ℕ) (l : Layer) → topmost (layers_in p) (po
 top_shows p x y l e =
     let t = top_is (listed p) p.frames (pos x) (pos y) l e in
     let d : ℕ = l.client in
-    let f : Frame = frame_in p d in
+    let f : Rectangle = frame_in p d in
     let own : l ≡ outline d f = t.own in
     let q = and_parts (holds l.x l.pixels.width (pos x)) (holds l.y l.pixels.height (pos y)) t.covers in
     let qx = corner_place l.x l.pixels.width x q.0 in
@@ -201,7 +196,7 @@ top_shows p x y l e =
     }
 
 -- the same, where the layer is told by its client, corner and size
-pub shown_by : (p : Plan) (x y d u v : ℕ) (f : Frame) → topmost (layers_in p) (pos x) (pos y) ≡ Some (outline d f)
+pub shown_by : (p : Plan) (x y d u v : ℕ) (f : Rectangle) → topmost (layers_in p) (pos x) (pos y) ≡ Some (outline d f)
     → pos x ≡ f.x +ℤ pos u → pos y ≡ f.y +ℤ pos v → Shows p x y d u v
 shown_by p x y d u v f e ex ey =
     subst (λ (b : ℕ). Shows p x y d u b) (place_from f.y y v ey)
@@ -237,7 +232,7 @@ pub record SeenAt (p : Plan) (d u v : ℕ) : Type 0 where
 
 pub seen_shows : (p : Plan) (d u v : ℕ) → has d (listed p) ≡ true → u < (frame_in p d).w → v < (frame_in p d).h → seen p d u v ≡ true → SeenAt p d u v
 seen_shows p d u v h hu hv s =
-    let f : Frame = frame_in p d in
+    let f : Rectangle = frame_in p d in
     let x : ℤ = f.x +ℤ pos u in
     let y : ℤ = f.y +ℤ pos v in
     let q = and_parts (inside p.screen x y) (not (covered (above d (layers_in p)) x y)) s in
@@ -265,8 +260,7 @@ pub record Keeps (width : ℕ) (p : Plan) (t : Slots) (x y a b : ℕ) : Type 0 w
   pub row : b ≡ store_y width t client u v
 
 kept_parts : (k : Bool) (a b a' b' : ℕ) → cond k (Kept a b) Alone ≡ Kept a' b' → (k ≡ true) × (a' ≡ a) × (b' ≡ b)
-kept_parts true a b a' b' e = (refl, cc, cc)
-kept_parts false a b a' b' e = absurd (let z : ◌≡◌ {A = ℕ} 0 1 = cc in omega arith)
+kept_parts k a b a' b' e = search (rules, tests)
 
 pub behind_keeps : (width : ℕ) (p : Plan) (t : Slots) (x y a b : ℕ) → behind width p t x y ≡ Kept a b → Keeps width p t x y a b
 unfolding behind
@@ -284,10 +278,10 @@ shows_real : (p : Plan) (x y d u v : ℕ) → Shows p x y d u v → Real d u v
 shows_real p x y d u v s = real p d u v s.listed s.column s.row
 
 -- A pixel with the same place in the store is the one that shows.
-pub keeps_pixel : (width : ℕ) (p : Plan) (t : Slots) (x y a b d u v : ℕ) → Keeps width p t x y a b → Real d u v → a ≡ store_x width t d u v → b ≡ store_y width t d u v
+pub keeps_pixel : (width : ℕ) (p : Plan) (t : Slots) (x y a b d u v : ℕ) → Keeps width p t x y a b → Real d u v → in_store t d u v ≡ true → a ≡ store_x width t d u v → b ≡ store_y width t d u v
     → Shows p x y d u v
-keeps_pixel width p t x y a b d u v k r ea eb =
-    let q = one_place t width k.client k.u k.v d u v (shows_real p x y k.client k.u k.v k.shows) r k.stored (sym k.column ∙ ea) (sym k.row ∙ eb) in
+keeps_pixel width p t x y a b d u v k r held ea eb =
+    let q = one_place t width k.client k.u k.v d u v (shows_real p x y k.client k.u k.v k.shows) r k.stored held (sym k.column ∙ ea) (sym k.row ∙ eb) in
     subst (λ (n : ℕ). Shows p x y n u v) q.0 (subst (λ (n : ℕ). Shows p x y k.client n v) q.1 (subst (λ (n : ℕ). Shows p x y k.client k.u n) q.2 k.shows))
 
 -- Two places whose pixels are kept at one place of the store are one.
@@ -295,7 +289,7 @@ pub behind_one : (width : ℕ) (p : Plan) (t : Slots) (x y x' y' a b : ℕ) → 
 behind_one width p t x y x' y' a b e e' =
     let k = behind_keeps width p t x y a b e in
     let k' = behind_keeps width p t x' y' a b e' in
-    let s = keeps_pixel width p t x' y' a b k.client k.u k.v k' (shows_real p x y k.client k.u k.v k.shows) k.column k.row in
+    let s = keeps_pixel width p t x' y' a b k.client k.u k.v k' (shows_real p x y k.client k.u k.v k.shows) k.stored k.column k.row in
     let q = shows_place p x y k.client k.u k.v k.shows in
     let q' = shows_place p x' y' k.client k.u k.v s in
     (sym q.0 ∙ q'.0, sym q.1 ∙ q'.1)
@@ -327,19 +321,18 @@ pub record Found (p : Plan) (x y d a b : ℕ) : Type 0 where
   pub row : b < 240
   pub is : (width : ℕ) (t : Slots) → kept_pixel width t d a b ≡ behind width p t x y
 
-pub found : (p : Plan) (x y d a b : ℕ) (zx zy : ℤ) (f : Frame) (fx fy : ℤ) → zx ≡ pos x → zy ≡ pos y → Some d ≡ client_if (topmost (layers_in p) zx zy)
-    → f ≡ frame_in p d → fx ≡ f.x → fy ≡ f.y → ((n : ℕ) → n < 320 → pos x ≡ fx +ℤ pos n → a ≡ n) → ((n : ℕ) → n < 320 → pos y ≡ fy +ℤ pos n → b ≡ n) → Found p x y d a b
+pub found : (p : Plan) (x y d a b : ℕ) (zx zy : ℤ) (f : Rectangle) (fx fy : ℤ) → zx ≡ pos x → zy ≡ pos y → Some d ≡ client_if (topmost (layers_in p) zx zy)
+    → f ≡ frame_in p d → fx ≡ f.x → fy ≡ f.y → a ≡ nat_abs (zx -ℤ fx) → b ≡ nat_abs (zy -ℤ fy) → Found p x y d a b
 found p x y d a b zx zy f fx fy ex ey e ef efx efy ha hb =
     let u : ℕ = from_corner (frame_in p d).x x in
     let v : ℕ = from_corner (frame_in p d).y y in
     let s : Shows p x y d u v = client_shows p x y d (ap₂ (λ i j. client_if (topmost (layers_in p) i j)) (sym ex) (sym ey) ∙ sym e) in
     let r = real p d u v s.listed s.column s.row in
-    let rc = r.column in let rr = r.row in
-    let ea : a ≡ u = ha u rc (s.across ∙ ap (λ z. z +ℤ pos u) (sym (efx ∙ ap (λ (g : Frame). g.x) ef))) in
-    let eb : b ≡ v = hb v (omega arith) (s.down ∙ ap (λ z. z +ℤ pos v) (sym (efy ∙ ap (λ (g : Frame). g.y) ef))) in
+    let ea : a ≡ u = ha ∙ ap₂ (λ i j. nat_abs (i -ℤ j)) ex (efx ∙ ap (λ (g : Rectangle). g.x) ef) in
+    let eb : b ≡ v = hb ∙ ap₂ (λ i j. nat_abs (i -ℤ j)) ey (efy ∙ ap (λ (g : Rectangle). g.y) ef) in
     record {
       client = r.client;
-      column = omega arith;
-      row = omega arith;
+      column = rw ea r.column;
+      row = rw eb r.row;
       is = λ width t. ap₂ (kept_pixel width t d) ea eb ∙ sym (shows_behind width p t x y d u v s);
     }

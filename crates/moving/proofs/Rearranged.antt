@@ -1,6 +1,7 @@
 -- From one arrangement to another: after stowing and repainting every pixel is where its spot says, and the screen shows the layers.
 use Rattle.std.proofs.Common.{◌≡◌, ℕ, ◌+◌, ◌*◌, ◌/◌, ◌%◌, ◌^◌, ◌<◌, Bool, true, false, cond, ◌&&◌, ◌||◌, ◌⊎◌, List, pos, ◌+ℤ◌, nat_abs, is_some, Some, None, Option, sym, refl, ap, ◌∙◌, subst, ap₂, inl, inr, ⊎_elim, mod-eq_of_lt, arith}
-use Rattle.std.proofs.lemmas.Bool.{and_from, and_left, or_left, or_right, or_cases, not_from_false, both_ways, cond-true, cond-false, cases_Bool, lt-ltb}
+use Rattle.std.proofs.lemmas.Bool.Decides.{nat_tests}
+use Rattle.std.proofs.lemmas.Bool.{and_from, and_left, or_left, or_right, not_from_false, both_ways, cond-true, cond-false, cases_Bool, lt-ltb}
 use Rattle.raster.specs.Picture.{Picture, sizes}
 use Rattle.raster.specs.Blt.{inside}
 use Rattle.raster.specs.Calls.{any_below}
@@ -10,9 +11,10 @@ use Rattle.paper.specs.Layers.{Layer, covered, topmost, shown, screen_after}
 use Rattle.paper.specs.Slots.{slots_of, obscured, hidden, hidden_in}
 use Rattle.paper.proofs.Screen.{topmost_tells, none_shown, screen_sizes}
 use Rattle.plan.specs.declared.plan.Plan.{Plan}
-use Rattle.plan.specs.declared.slots.Slots.{Slots}
+use Rattle.slots.specs.declared.slots.Slots.{Slots}
 use Rattle.plan.specs.Frames.{has}
-use Rattle.plan.specs.Plans.{outline, listed, layers_in, frame_in, above, seen, patch_at, hidden_patch, slot_of, has_slot}
+use Rattle.plan.specs.Plans.{outline, listed, layers_in, frame_in, above, seen, patch_at, hidden_patch}
+use Rattle.slots.specs.Tables.{slot_of, has_slot}
 use Rattle.plan.proofs.Patches.{any_of, hidden_open}
 use Rattle.hold.specs.Spots.{slot_x, slot_y, screen_spot, store_spot, spot_of, look}
 use Rattle.hold.specs.Held.{Pixels, layers_with, held, Holds}
@@ -136,7 +138,7 @@ module _ (p q : Plan) (t t' t'' : Slots) (at : ℕ → ℕ → Bool) (px : Pixel
           let n : ℕ = patch_at d (u / 16) (v / 16) in
           let had : has_slot t n ≡ true = slots.fits n (real_patch d u v r) ∙ unseen_hidden p d u v h hu hv e in
           let c = stowed.others (store_x m.width t' d u v) (store_y m.width t' d u v) (λ x y i b.
-          let z = keeps_pixel m.width p t' x y _ _ d u v (behind_keeps m.width p t' x y _ _ b) r refl refl in
+          let z = keeps_pixel m.width p t' x y _ _ d u v (behind_keeps m.width p t' x y _ _ b) r k refl refl in
           both_ways (seen p d u v) e (shows_seen p x y d u v z (work.on x y i))) in
           ap (λ n. n % 2 ^ s.depth) (c ∙ same_place m.width t t' m d u v (slots.kept n (real_patch d u v r) had)) ∙ sym (held_unseen s m p t d u v e) ∙ holds d h u v hu hv
 
@@ -250,7 +252,7 @@ module _ (p q : Plan) (t t' t'' : Slots) (at : ℕ → ℕ → Bool) (px : Pixel
             → s'.at x y ≡ cond (covered (layers_in p) (pos x) (pos y)) 0 (s.at x y)
         bare x y e n true w =
             let k : behind m.width q t' x y ≡ Bare = bare_behind m.width q t' x y n in
-            let c : covered (layers_in p) (pos x) (pos y) ≡ true = ⊎_elim (λ (a : covered (layers_in p) (pos x) (pos y) ≡ true). a) (λ a. absurd (both_ways (covered (layers_in q) (pos x) (pos y)) n a)) (or_cases _ _ (work.under x y w)) in
+            let c : covered (layers_in p) (pos x) (pos y) ≡ true = let under = work.under x y w in grind (arith, nat_tests, under, n) in
             painted_there x y ∙ ap₂ (λ b c. cond (b && changes c) (taken s.depth m' c) (s.at x y)) w k ∙ sym (cond-true _ 0 (s.at x y) c)
         bare x y e n false w =
             let same = work.off x y (ap (λ z. inside z (pos x) (pos y)) fit ∙ e) w in

@@ -1,12 +1,13 @@
 -- Stowing and repainting some places and then others.
-use Rattle.std.proofs.Common.{◌≡◌, ℕ, zero, suc, ◌*◌, ◌/◌, ◌^◌, ◌<◌, ◌≤◌, Bool, true, false, cond, ◌&&◌, ◌||◌, eqb, ltb, Some, None, Option, sym, refl, ap, ◌∙◌, subst, ap₂, ⊎_elim, mod-lt, arith, pow_mono}
-use Rattle.std.proofs.lemmas.Bool.{and_parts, and_from, and_left, or_cases, or_left, or_right, both_ways, eqb-true, eq-eqb, cond-true, cond-false}
+use Rattle.std.proofs.Common.{rules, tests, ◌≡◌, ℕ, zero, suc, ◌*◌, ◌/◌, ◌^◌, ◌<◌, ◌≤◌, Bool, true, false, cond, ◌&&◌, ◌||◌, eqb, ltb, Some, None, Option, sym, refl, ap, ◌∙◌, subst, ap₂, mod-lt, arith, pow_mono}
+use Rattle.std.proofs.lemmas.Bool.Decides.{nat_tests}
+use Rattle.std.proofs.lemmas.Bool.{and_parts, and_from, and_left, or_left, or_right, both_ways, eqb-true, eq-eqb, cond-true, cond-false}
 use Rattle.std.proofs.lemmas.Nat.{pow_pos}
 use Rattle.raster.specs.Picture.{Picture, sizes, painted, with_pixel}
 use Rattle.raster.proofs.Paints.{painted_at, painted_sizes, painted_same, painted_none, painted_more}
 use Rattle.paper.specs.Slots.{slots_of}
 use Rattle.plan.specs.declared.plan.Plan.{Plan}
-use Rattle.plan.specs.declared.slots.Slots.{Slots}
+use Rattle.slots.specs.declared.slots.Slots.{Slots}
 use Rattle.hold.specs.Spots.{Settable}
 use Rattle.moving.specs.declared.backing.Backing.{Backing}
 use Rattle.moving.specs.declared.backing.Backing.TheVariants.{Bare, Alone, Kept}
@@ -74,16 +75,10 @@ module _ (s : Picture) (p : Plan) (t : Slots) where
           e.others a b (λ x' y' i k'.
           let q = behind_one m.width p t x y x' y' a b k (early x' y' ∙ k') in
           both_ways (g x y) c (ap₂ g q.0 q.1 ∙ i))
-          ∙ d.copied x y a b (⊎_elim (λ (u : f x y ≡ true). u) (λ (u : g x y ≡ true). absurd (both_ways (g x y) c u)) (or_cases (f x y) (g x y) h)) k
+          ∙ d.copied x y a b (grind (arith, nat_tests)) k
 
 or_and : (f g c : Bool) → ((f || g) && c) ≡ ((g && c) || (f && c))
-or_and true true true = refl
-or_and true true false = refl
-or_and true false true = refl
-or_and true false false = refl
-or_and false true true = refl
-or_and false true false = refl
-or_and false false c = refl
+or_and f g c = grind (arith, nat_tests)
 
 module _ (m : Picture) (p : Plan) (t : Slots) where
   pub repainted_sizes : (at : ℕ → ℕ → Bool) (s : Picture) → sizes (repainted m p t at s) ≡ sizes s
@@ -168,13 +163,10 @@ taken_small depth m Alone = pow_pos depth
 taken_small depth m (Kept a b) = mod-lt _ (pow_pos depth)
 
 some_taken : (b : Bool) (v n : ℕ) → Some v ≡ cond b (Some n) None → (b ≡ true) × (v ≡ n)
-some_taken true v n e = (refl, cc)
-some_taken false v n e = absurd (let z : ◌≡◌ {A = ℕ} 0 1 = cc in omega arith)
+some_taken b v n e = search (rules, tests)
 
 none_taken : (r : Backing) (n : ℕ) → None ≡ cond (changes r) (Some n) None → r ≡ Alone
-none_taken Bare n e = absurd (let z : ◌≡◌ {A = ℕ} 0 1 = cc in omega arith)
-none_taken Alone n e = refl
-none_taken (Kept a b) n e = absurd (let z : ◌≡◌ {A = ℕ} 0 1 = cc in omega arith)
+none_taken r n e = search (rules, tests)
 
 module _ (s m : Picture) (p : Plan) (t : Slots) (x y w d : ℕ) (fit : Fitting s m p t) (ew : w ≡ m.width) (ed : d ≡ s.depth) (r : Backing) (er : (0 < t.places → 16 ≤ w) → r ≡ behind w p t x y) (o : Option ℕ)
     (eo : o ≡ cond (changes r) (Some (taken d m r)) None) where
@@ -192,5 +184,4 @@ module _ (s m : Picture) (p : Plan) (t : Slots) (x y w d : ℕ) (fit : Fitting s
   paint_none e = sym (repainted_skip m p t x y s (behind_is s m p t x y w fit ew r er ∙ none_taken r (taken s.depth m r) (sym e ∙ got)))
 
 pub none_is : (o : Option ℕ) → ((v : ℕ) → o ≡ Some v → ⊥) → o ≡ None
-none_is (Some v) n = absurd (n v refl)
-none_is None n = refl
+none_is o n = search (rules, tests)

@@ -1,15 +1,16 @@
 -- What stowing, repainting and blanking come to: the desk on paper after a call, and its screen.
-use Rattle.std.specs.Prelude.{◌≡◌, ℕ, ◌<◌, true, not, ◌&&◌, ◌||◌, [], ◌∷◌, ◌++◌, ℤ, ◌==◌}
+use Rattle.std.specs.Prelude.{Some, Option, ◌≡◌, ℕ, ◌<◌, true, not, ◌&&◌, ◌||◌, [], ◌∷◌, ◌++◌, ℤ, ◌==◌}
 use Rattle.raster.specs.Picture.{Picture, Sound}
 use Rattle.raster.specs.Calls.{fill_with, bitmap_after}
 use Rattle.paper.specs.Layers.{Desk, only, without, alter, at_corner, screen_after}
 use Rattle.paper.specs.Desk.{change, open_layer, close_layer, raise_layer, lower_layer, move_layer}
-use Rattle.plan.specs.declared.frame.Frame.{Frame}
+use Rattle.raster.specs.declared.rectangle.Rectangle.{Rectangle}
 use Rattle.plan.specs.declared.plan.Plan.{Plan}
-use Rattle.plan.specs.declared.slots.Slots.{Slots}
+use Rattle.slots.specs.declared.slots.Slots.{Slots}
 use Rattle.plan.specs.Frames.{has}
-use Rattle.plan.specs.Plans.{outline, listed, layers_in, frame_in, hidden_patch, patch_of, needs, has_slot, Fits}
-use Rattle.plan.specs.Allots.{Supplied, Retained}
+use Rattle.plan.specs.Plans.{outline, listed, layers_in, frame_in, hidden_patch, patch_of, needs}
+use Rattle.slots.specs.Tables.{has_slot, Fits}
+use Rattle.slots.specs.Allots.{Supplied, Retained}
 use Rattle.plan.specs.Arranged.{Arranged, SameFrames, OtherFrames, cornered, can_open}
 use Rattle.hold.specs.Held.{paper_of}
 use Rattle.moving.specs.Phases.{Fitting, on_screen, Stowed, repainted, Blanked}
@@ -29,8 +30,8 @@ pub record Leaves (s m : Picture) (p : Plan) (t : Slots) (s' m' : Picture) (q : 
 pub record MovingLaws : Type 0 where
   -- A table that serves the patches in need, and what is left of it for those hidden after, are the tables of a call. A move has a slot for
   -- each patch of the layer, and a close needs no other slots.
-  pub supplied : (p q : Plan) (t t' t'' : Slots) (moved : ℕ) → Fits p t → Supplied t (needs p q moved) t' → Retained t' (hidden_patch q) t'' → Slotted p q t t' t'' × Fits q t''
-  pub all_supplied : (p q : Plan) (t t' : Slots) (c : ℕ) → Supplied t (needs p q c) t' → (k : ℕ) → k < 2400 → patch_of q c k ≡ true → has_slot t' k ≡ true
+  pub supplied : (p q : Plan) (t t' t'' : Slots) (moved : Option ℕ) → Fits p t → Supplied t (needs p q moved) t' → Retained t' (hidden_patch q) t'' → Slotted p q t t' t'' × Fits q t''
+  pub all_supplied : (p q : Plan) (t t' : Slots) (c : ℕ) → Supplied t (needs p q (Some c)) t' → (k : ℕ) → k < 2400 → patch_of q c k ≡ true → has_slot t' k ≡ true
   pub none_supplied : (p q : Plan) (t t'' : Slots) (c : ℕ) → Fits p t → q.screen ≡ p.screen → layers_in q ≡ without c (layers_in p) → Retained t (hidden_patch q) t''
       → Slotted p q t t t'' × Fits q t''
   -- Raise, lower and close: stow the client's frame, and repaint it.
@@ -54,7 +55,7 @@ pub record MovingLaws : Type 0 where
       → s₁ ≡ repainted m' q t' (on_screen q.screen (frame_in p c)) s → s' ≡ repainted m' q t' (on_screen q.screen (frame_in q c)) s₁
       → Leaves s m p t s' m' q t'' (change (paper_of s m p t) (move_layer c x y))
   -- Open: stow the new layer's frame, blank its slots, and fill its part of the screen with 0.
-  pub opened : (s m m₁ s' m' : Picture) (p q : Plan) (t t' t'' : Slots) (c : ℕ) (f : Frame) → Begins s m p q t t' t'' → can_open p c f ≡ true
+  pub opened : (s m m₁ s' m' : Picture) (p q : Plan) (t t' t'' : Slots) (c : ℕ) (f : Rectangle) → Begins s m p q t t' t'' → can_open p c f ≡ true
       → Arranged p q (layers_in p ++ (outline c f ∷ [])) (λ d. has d (listed p) || c == d) → OtherFrames c p q → frame_in q c ≡ f
       → Stowed s p t' (on_screen p.screen f) m m₁ → Blanked t' c m₁ m' → s' ≡ bitmap_after s (fill_with 3 0 f.x f.y f.w f.h)
       → Leaves s m p t s' m' q t'' (change (paper_of s m p t) (open_layer c f.x f.y f.w f.h))

@@ -5,9 +5,10 @@ use Rattle.raster.specs.Blt.{inside}
 use Rattle.paper.specs.Layers.{Desk, covered, topmost}
 use Rattle.paper.specs.Slots.{slots_of}
 use Rattle.plan.specs.declared.plan.Plan.{Plan}
-use Rattle.plan.specs.declared.slots.Slots.{Slots}
+use Rattle.slots.specs.declared.slots.Slots.{Slots}
 use Rattle.plan.specs.Frames.{has}
-use Rattle.plan.specs.Plans.{listed, layers_in, frame_in, hidden_patch, slot_of, has_slot, Fits}
+use Rattle.plan.specs.Plans.{listed, layers_in, frame_in, hidden_patch}
+use Rattle.slots.specs.Tables.{slot_of, has_slot, Fits}
 use Rattle.hold.specs.Held.{Pixels, layers_with}
 use Rattle.moving.specs.Phases.{in_store}
 

@@ -1,17 +1,18 @@
 -- What stands behind a screen place, and what stowing, repainting and blanking leave.
-use Rattle.std.specs.Prelude.{◌≡◌, ℕ, ◌+◌, ◌/◌, ◌%◌, ◌^◌, ◌<◌, Bool, true, false, cond, ◌&&◌, ℤ, pos, ◌-ℤ◌, Some, None, Option, ◌==◌, ◌≢◌, unsigned_abs}
+use Rattle.std.specs.Prelude.{◌≡◌, ℕ, ◌+◌, ◌/◌, ◌%◌, ◌^◌, ◌<◌, Bool, true, false, cond, ◌&&◌, ◌||◌, not, nat_le, nat_lt, ℤ, pos, ◌-ℤ◌, Some, None, Option, ◌==◌, ◌≢◌, unsigned_abs}
 use Rattle.raster.specs.Picture.{Picture, sizes, painted}
 use Rattle.raster.specs.Blt.{in_rectangle, inside}
-use Rattle.raster.specs.Blits.{between, spans}
+use Rattle.raster.specs.Blits.{between}
 use Rattle.raster.specs.declared.size.Size.{Size}
-use Rattle.raster.specs.declared.span.Span.{Span}
 use Rattle.paper.specs.Layers.{Layer, topmost}
 use Rattle.paper.specs.Slots.{slots_of}
-use Rattle.plan.specs.declared.frame.Frame.{Frame}
+use Rattle.raster.specs.declared.rectangle.Rectangle.{Rectangle}
 use Rattle.plan.specs.declared.plan.Plan.{Plan}
-use Rattle.plan.specs.declared.slots.Slots.{Slots}
-use Rattle.plan.specs.Plans.{layers_in, patch_at, has_slot}
+use Rattle.slots.specs.declared.slots.Slots.{Slots}
+use Rattle.plan.specs.Plans.{layers_in, patch_at}
+use Rattle.slots.specs.Tables.{has_slot}
 use Rattle.hold.specs.Spots.{slot_x, slot_y, own_slot}
+use Rattle.moving.specs.declared.walk.Places.{Places}
 use Rattle.moving.specs.declared.backing.Backing.{Backing}
 use Rattle.moving.specs.declared.backing.Backing.TheVariants.{Bare, Alone, Kept}
 
@@ -21,16 +22,21 @@ pub record Fitting (screen store : Picture) (p : Plan) (t : Slots) : Type 0 wher
   pub places : t.places ≡ slots_of (sizes store) screen.depth
 
 -- The screen places of a rectangle.
-abbrev pub on_screen : Size → Frame → (x y : ℕ) → Bool
+abbrev pub on_screen : Size → Rectangle → (x y : ℕ) → Bool
 on_screen s f x y = in_rectangle f.x f.y f.w f.h (pos x) (pos y) && inside s (pos x) (pos y)
 
 -- The one place (x, y).
 abbrev pub just : (x y : ℕ) → ℕ → ℕ → Bool
 just x y a b = a == x && b == y
 
--- The places of a row in some columns.
-abbrev pub in_row : (columns : Span) (y : ℕ) → ℕ → ℕ → Bool
-in_row columns y a b = spans columns a && b == y
+-- The places of a walk that are still ahead: those of its row from its column on, and the rows after it.
+abbrev pub ahead : Places → (x y : ℕ) → Bool
+ahead w x y = nat_lt x w.right && nat_lt y w.bottom && ((y == w.y && nat_le w.x x) || (nat_lt w.y y && nat_le w.left x))
+
+-- A step of a walk gives one of the places ahead, and leaves the others; it gives none where none is ahead.
+abbrev pub Gives : Places → Option (ℕ × ℕ) → Places → Type 0
+Gives w None w' = (x y : ℕ) → ahead w x y ≡ false
+Gives w (Some p) w' = (ahead w p.0 p.1 ≡ true) × ((x y : ℕ) → ahead w' x y ≡ (ahead w x y && not (just p.0 p.1 x y)))
 
 -- The place in a store of the pixel (u, v) of a client's layer, if its patch has a slot.
 abbrev pub store_x : (width : ℕ) → Slots → (client u v : ℕ) → ℕ

@@ -1,28 +1,22 @@
 //! Blanking: the slots of a client's patches are set to 0.
-ghost use Rattle.std.specs.Prelude.{◌≡◌, ◌+◌, ◌*◌, ◌/◌, ◌<◌, ◌≤◌};
+ghost use Rattle.std.specs.Prelude.{◌≡◌, ◌+◌, ◌*◌, ◌/◌, ◌<◌, ◌≤◌, pos};
 ghost use Rattle.raster.specs.Picture.{sizes, painted};
 ghost use Rattle.moving.specs.Phases.{in_slot, Blanked};
 
-use crate::pixel::signed;
-use plan::Slots;
-use raster::Bitmap;
+use hold::{coordinate, slot_corner};
+use raster::{Bitmap, Rectangle, SOURCE};
+use slots::Slots;
 
 /// Sets a slot of the store to 0.
 fn blank_slot<T: Bitmap>(store: &mut T, k: u16)
-    requires { k < 4096 }
     ensures keeps { T.Bitmap.keeps store.old store.new }
     ensures size { sizes (T.Bitmap.picture store.new) ≡ sizes (T.Bitmap.picture store.old) }
     ensures blanks { k < ((T.Bitmap.picture store.old).width / 16) * ((T.Bitmap.picture store.old).height / 16) → T.Bitmap.picture store.new ≡ painted (T.Bitmap.picture store.old) (in_slot (T.Bitmap.picture store.old).width k) (λ _ _. 0) }
 {
-    let across = (store.size().width / 16).max(1);
-    let _ = store.fill(
-        3,
-        0,
-        signed(16 * (k % across)),
-        signed(16 * (k / across)),
-        16,
-        16,
-    );
+    if let Some((x, y)) = slot_corner(k, store.size().width) {
+        let square = Rectangle::new(coordinate(x), coordinate(y), 16, 16);
+        let _ = store.fill(SOURCE, 0, square);
+    }
 }
 
 /// Sets the slots of a client's patches to 0.
@@ -31,9 +25,10 @@ pub fn blank<T: Bitmap>(store: &mut T, slots: &Slots, c: u8)
     ensures size { sizes (T.Bitmap.picture store.new) ≡ sizes (T.Bitmap.picture store.old) }
     ensures blanks { c < 8 → slots.now.places ≤ ((T.Bitmap.picture store.old).width / 16) * ((T.Bitmap.picture store.old).height / 16) → Blanked slots.now c (T.Bitmap.picture store.old) (T.Bitmap.picture store.new) }
 {
-    let first = 300 * c.min(8) as u16;
-    for i in 0..300u16 {
-        if let Some(k) = slots.slot(first + i) {
+    let first = 300 * u16::from(c.min(8));
+    // Tried: a `for` over `filter_map(|patch| slots.slot(patch))`; the check breaks off at such a loop in a generic function.
+    for patch in first..first + 300 {
+        if let Some(k) = slots.slot(patch) {
             blank_slot(store, k);
         }
     }

@@ -5,8 +5,8 @@ mod backing;
 mod blanking;
 mod laws;
 mod painting;
-mod pixel;
 mod stowing;
+mod walk;
 
 pub use backing::Backing;
 pub use blanking::blank;

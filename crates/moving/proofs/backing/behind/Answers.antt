@@ -1,22 +1,18 @@
-use Rattle.std.proofs.Common.{◌≡◌, ℕ, ◌<◌, pos, sym, ◌∙◌, ap₂, arith, w16, SFits, to_z, rules}
-use Rattle.std.proofs.lemmas.Int.{ints}
+use Rattle.std.proofs.Common.{sym, ◌∙◌, ap₂, w16, SFits, rules}
 use Rattle.paper.specs.Layers.{topmost}
 use Rattle.paper.specs.Desk.{client_if}
 use Rattle.plan.specs.Plans.{layers_in}
 use Rattle.moving.proofs.Places.{found, no_client, bare_behind}
-use Rattle.moving.proofs.Touched.{as_was}
+use Rattle.moving.proofs.Touched.{narrow, as_was}
 use Rattle.moving.proofs.backing.behind.Goals as goal
-
-narrow : (x : ℕ) → x < 32768 → to_z w16 x ≡ pos x
-narrow x h = omega (arith, ints)
 
 pub kept_pixel-requires : goal.kept_pixel-requires
 kept_pixel-requires c =
     let a = c.args in
     let fx : SFits w16 c.frame-frame.result.x = search rules in
     let fy : SFits w16 c.frame-frame.result.y = search rules in
-    let f = found a.plan.now a.x a.y c.in-Some.d c.offset.result c.offset-in-Some.result _ _ c.frame-frame.result _ _ (narrow a.x c.requires.across) (narrow a.y c.requires.down)
-    c.in-Some.ensures c.frame-frame.ensures (as_was _ fx) (as_was _ fy) c.offset.ensures c.offset-in-Some.ensures in
+    let f = found a.layout.plan.now a.x a.y c.in-Some.d c.abs_diff.result c.abs_diff-in-Some.result _ _ c.frame-frame.result _ _ (narrow a.x c.requires.across) (narrow a.y c.requires.down)
+    c.in-Some.ensures c.frame-frame.ensures (as_was _ fx) (as_was _ fy) c.abs_diff.ensures c.abs_diff-in-Some.ensures in
     record { client = f.client; column = f.column; row = f.row }
 
 pub returns-in-Some : goal.returns-in-Some
@@ -24,12 +20,12 @@ returns-in-Some c h =
     let a = c.args in
     let fx : SFits w16 c.frame-frame.result.x = search rules in
     let fy : SFits w16 c.frame-frame.result.y = search rules in
-    let f = found a.plan.now a.x a.y c.in-Some.d c.offset.result c.offset-in-Some.result _ _ c.frame-frame.result _ _ (narrow a.x c.requires.across) (narrow a.y c.requires.down)
-    c.in-Some.ensures c.frame-frame.ensures (as_was _ fx) (as_was _ fy) c.offset.ensures c.offset-in-Some.ensures in
-    c.kept_pixel.ensures h ∙ f.is a.width a.slots.now
+    let f = found a.layout.plan.now a.x a.y c.in-Some.d c.abs_diff.result c.abs_diff-in-Some.result _ _ c.frame-frame.result _ _ (narrow a.x c.requires.across) (narrow a.y c.requires.down)
+    c.in-Some.ensures c.frame-frame.ensures (as_was _ fx) (as_was _ fy) c.abs_diff.ensures c.abs_diff-in-Some.ensures in
+    c.kept_pixel.ensures h ∙ f.is a.width a.layout.slots.now
 
 pub returns-in-None : goal.returns-in-None
 returns-in-None c h =
     let a = c.args in
-    sym (bare_behind a.width a.plan.now a.slots.now a.x a.y
-    (no_client a.plan.now a.x a.y (ap₂ (λ i j. client_if (topmost (layers_in a.plan.now) i j)) (sym (narrow a.x c.requires.across)) (sym (narrow a.y c.requires.down)) ∙ sym c.in-None.ensures)))
+    sym (bare_behind a.width a.layout.plan.now a.layout.slots.now a.x a.y
+    (no_client a.layout.plan.now a.x a.y (ap₂ (λ i j. client_if (topmost (layers_in a.layout.plan.now) i j)) (sym (narrow a.x c.requires.across)) (sym (narrow a.y c.requires.down)) ∙ sym c.in-None.ensures)))

@@ -1,57 +1,52 @@
-use Rattle.std.proofs.Common.{◌≡◌, ◌+◌, sym, refl, ap, ◌∙◌, arith, w16, SFits, rules}
+use Rattle.std.proofs.Common.{◌<◌, sym, refl, ap, ◌∙◌, subst}
+use Rattle.raster.specs.Picture.{sizes}
 use Rattle.raster.specs.declared.size.Size.{Size}
-use Rattle.moving.specs.Phases.{in_row, on_screen}
+use Rattle.moving.specs.Phases.{on_screen, just}
 use Rattle.moving.proofs.Stows.{repainted_none, repainted_as}
-use Rattle.moving.proofs.Areas.{rows_so_far, rows_none, rows_more, repaint_more, area_all}
-use Rattle.moving.proofs.Touched.{as_was}
+use Rattle.moving.proofs.Areas.{walk_starts, passed, place_below, passed_none, passed_all, passed_more, within_more, repaint_more}
 use Rattle.moving.proofs.painting.repaint.Goals as goal
 
-pub loop-j-init : goal.loop-j-init
-loop-j-init g c =
-    let a = c.args in (
-      g.met.S.Bitmap.same a.screen.now,
-      refl,
-      λ f. sym (repainted_none (g.T.Bitmap.picture a.store.now) a.plan.now a.slots.now (rows_so_far c.clip-columns.result c.clip-rows.result 0) _ (rows_none c.clip-columns.result c.clip-rows.result)),
-    )
-
-pub repaint_row-requires : goal.repaint_row-requires
-repaint_row-requires g c =
-    let e = c.loop-j.invariant.1 ∙ sym c.size-size.ensures in
-    let s = g.S.Bitmap.picture c.loop-j.screen in
-    let w : s.width ≡ c.size-size.result.width = ap (λ (z : Size). z.width) e in
-    let h : s.height ≡ c.size-size.result.height = ap (λ (z : Size). z.height) e in
-    record { across = omega arith; down = omega arith }
-
-pub loop-j-preserved : goal.loop-j-preserved
-loop-j-preserved g c =
+pub loop-x-init : goal.loop-x-init
+loop-x-init g c =
     let a = c.args in
-    let l = c.loop-j in
-    let columns = c.clip-columns.result in
-    let rows = c.clip-rows.result in
-    let m = g.T.Bitmap.picture a.store.now in
-    let s = g.S.Bitmap.picture a.screen.now in
-    let s' = g.S.Bitmap.picture l.screen in
-    let s'' = g.S.Bitmap.picture c.repaint_row.new.screen in (
-      g.met.S.Bitmap.joins a.screen.now l.screen c.repaint_row.new.screen l.invariant.0 c.repaint_row.ensures.keeps,
-      c.repaint_row.ensures.size ∙ l.invariant.1,
-      repaint_more s s' s'' m a.plan.now a.slots.now (rows_so_far columns rows l.j) (in_row columns (rows.first + l.j)) (rows_so_far columns rows (l.j + 1)) l.invariant.1
-          (rows_more columns rows l.j) l.invariant.2 c.repaint_row.ensures.paints,
-    )
-
-pub returns : goal.returns
-returns g c =
-    let a = c.args in
-    let l = c.loop-j in
-    let columns = c.clip-columns.result in
-    let rows = c.clip-rows.result in
-    let e : l.j ≡ rows.len = omega arith in
-    let fx : SFits w16 a.area.x = search rules in
-    let fy : SFits w16 a.area.y = search rules in
+    let walk = c.into_iter-x-iterator.result in
+    let size : Size = sizes (g.S.Bitmap.picture c.args.screen.now) in
+    let whole = walk_starts walk c.new-x-items.result c.size.result size a.area c.into_iter-x-iterator.ensures.into_iter_gives c.new-x-items.ensures c.size.ensures in
     record {
-      keeps = l.invariant.0;
-      size = l.invariant.1;
-      paints = λ f.
-          l.invariant.2 f
-          ∙ sym (repainted_as (g.T.Bitmap.picture a.store.now) a.plan.now a.slots.now (on_screen a.plan.now.screen a.area) (rows_so_far columns rows l.j) (g.S.Bitmap.picture a.screen.now)
-          (area_all a.plan.now.screen c.size-size.result a.area _ _ columns rows l.j (as_was _ fx) (as_was _ fy) (f.sized ∙ sym c.size-size.ensures) e c.clip-columns.ensures c.clip-rows.ensures));
+      keeps = g.met.S.Bitmap.same a.screen.now;
+      size = refl;
+      within = λ x y h. sym (whole x y) ∙ h;
+      paints = λ f. sym (repainted_none (g.T.Bitmap.picture a.store.now) a.layout.plan.now a.layout.slots.now (passed size a.area walk) _ (passed_none size a.area walk whole));
     }
+
+pub repaint_pixel-requires : goal.repaint_pixel-requires
+repaint_pixel-requires g c =
+    let q = place_below (sizes (g.S.Bitmap.picture c.args.screen.now)) c.args.area c.in-Some.x c.in-Some.y (c.loop-x.invariant.within _ _ c.in-Some.ensures.steps.0) in
+    let e = sym c.loop-x.invariant.size in
+    record { across = subst (λ (z : Size). c.in-Some.x < z.width) e q.0; down = subst (λ (z : Size). c.in-Some.y < z.height) e q.1 }
+
+pub loop-x-preserved : goal.loop-x-preserved
+loop-x-preserved g c =
+    let a = c.args in
+    let l = c.loop-x in
+    let i = l.invariant in
+    let size : Size = sizes (g.S.Bitmap.picture c.args.screen.now) in
+    let walk = l.x-iterator in
+    let x = c.in-Some.x in
+    let y = c.in-Some.y in
+    record {
+      keeps = g.met.S.Bitmap.joins a.screen.now l.screen c.repaint_pixel.new.screen i.keeps c.repaint_pixel.ensures.keeps;
+      size = c.repaint_pixel.ensures.size ∙ i.size;
+      within = within_more size a.area walk c.next.new.self x y i.within c.in-Some.ensures.steps;
+      paints = repaint_more _ _ _ (g.T.Bitmap.picture a.store.now) a.layout.plan.now a.layout.slots.now (passed size a.area walk) (just x y) (passed size a.area c.next.new.self) i.size
+          (passed_more size a.area walk c.next.new.self x y i.within c.in-Some.ensures.steps) i.paints c.repaint_pixel.ensures.paints;
+    }
+
+pub returns-clause-paints : goal.returns-clause-paints
+returns-clause-paints g c f =
+    let a = c.args in
+    let l = c.loop-x in
+    let size : Size = sizes (g.S.Bitmap.picture c.args.screen.now) in
+    l.invariant.paints f
+    ∙ sym (repainted_as (g.T.Bitmap.picture a.store.now) a.layout.plan.now a.layout.slots.now (on_screen a.layout.plan.now.screen a.area) (passed size a.area l.x-iterator) (g.S.Bitmap.picture a.screen.now)
+    (λ x y. ap (λ (z : Size). on_screen z a.area x y) f.sized ∙ passed_all size a.area l.x-iterator c.in-None.ensures.steps x y))

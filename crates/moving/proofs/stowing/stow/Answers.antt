@@ -1,56 +1,37 @@
-use Rattle.std.proofs.Common.{◌≡◌, ◌+◌, sym, refl, ap, ◌∙◌, arith, w16, SFits, rules}
+use Rattle.std.proofs.Common.{ap, ◌∙◌}
+use Rattle.raster.specs.Picture.{sizes}
 use Rattle.raster.specs.declared.size.Size.{Size}
-use Rattle.moving.specs.Phases.{in_row, on_screen}
-use Rattle.moving.proofs.Stows.{stowed_none, stowed_as}
-use Rattle.moving.proofs.Areas.{rows_so_far, rows_none, rows_more, stow_more, area_all}
-use Rattle.moving.proofs.Touched.{as_was}
+use Rattle.moving.specs.Phases.{on_screen, just}
+use Rattle.moving.proofs.Stows.{stowed_as}
+use Rattle.moving.proofs.Areas.{passed, place_below, passed_all, passed_more, within_more, stow_more}
 use Rattle.moving.proofs.stowing.stow.Goals as goal
 
-pub loop-j-init : goal.loop-j-init
-loop-j-init g c =
-    let a = c.args in (
-      g.met.T.Bitmap.same a.store.now,
-      refl,
-      λ f. stowed_none _ a.plan.now a.slots.now (rows_so_far c.clip-columns.result c.clip-rows.result 0) _ (rows_none c.clip-columns.result c.clip-rows.result),
-    )
+pub stow_pixel-requires : goal.stow_pixel-requires
+stow_pixel-requires g c =
+    let q = place_below (sizes (g.S.Bitmap.picture c.args.screen.now)) c.args.area c.in-Some.x c.in-Some.y (c.loop-x.invariant.within _ _ c.in-Some.ensures.steps.0) in
+    record { across = q.0; down = q.1 }
 
-pub stow_row-requires : goal.stow_row-requires
-stow_row-requires g c =
-    let e = c.size-size.ensures in
-    let s = g.S.Bitmap.picture c.args.screen.now in
-    let w : c.size-size.result.width ≡ s.width = ap (λ (z : Size). z.width) e in
-    let h : c.size-size.result.height ≡ s.height = ap (λ (z : Size). z.height) e in
-    record { across = omega arith; down = omega arith }
-
-pub loop-j-preserved : goal.loop-j-preserved
-loop-j-preserved g c =
+pub loop-x-preserved : goal.loop-x-preserved
+loop-x-preserved g c =
     let a = c.args in
-    let l = c.loop-j in
-    let columns = c.clip-columns.result in
-    let rows = c.clip-rows.result in
-    let s = g.S.Bitmap.picture a.screen.now in
-    let m = g.T.Bitmap.picture a.store.now in
-    let m' = g.T.Bitmap.picture l.store in
-    let m'' = g.T.Bitmap.picture c.stow_row.new.store in (
-      g.met.T.Bitmap.joins a.store.now l.store c.stow_row.new.store l.invariant.0 c.stow_row.ensures.keeps,
-      c.stow_row.ensures.size ∙ l.invariant.1,
-      stow_more s m m' m'' a.plan.now a.slots.now (rows_so_far columns rows l.j) (in_row columns (rows.first + l.j)) (rows_so_far columns rows (l.j + 1)) l.invariant.1
-          (rows_more columns rows l.j) l.invariant.2 c.stow_row.ensures.stows,
-    )
-
-pub returns : goal.returns
-returns g c =
-    let a = c.args in
-    let l = c.loop-j in
-    let columns = c.clip-columns.result in
-    let rows = c.clip-rows.result in
-    let e : l.j ≡ rows.len = omega arith in
-    let fx : SFits w16 a.area.x = search rules in
-    let fy : SFits w16 a.area.y = search rules in
+    let l = c.loop-x in
+    let i = l.invariant in
+    let size : Size = sizes (g.S.Bitmap.picture c.args.screen.now) in
+    let walk = l.x-iterator in
+    let x = c.in-Some.x in
+    let y = c.in-Some.y in
     record {
-      keeps = l.invariant.0;
-      size = l.invariant.1;
-      stows = λ f.
-          stowed_as (g.S.Bitmap.picture a.screen.now) a.plan.now a.slots.now (rows_so_far columns rows l.j) (on_screen a.plan.now.screen a.area) (g.T.Bitmap.picture a.store.now) (g.T.Bitmap.picture l.store)
-          (area_all a.plan.now.screen c.size-size.result a.area _ _ columns rows l.j (as_was _ fx) (as_was _ fy) (f.sized ∙ sym c.size-size.ensures) e c.clip-columns.ensures c.clip-rows.ensures) (l.invariant.2 f);
+      keeps = g.met.T.Bitmap.joins a.store.now l.store c.stow_pixel.new.store i.keeps c.stow_pixel.ensures.keeps;
+      size = c.stow_pixel.ensures.size ∙ i.size;
+      within = within_more size a.area walk c.next.new.self x y i.within c.in-Some.ensures.steps;
+      stows = stow_more (g.S.Bitmap.picture a.screen.now) _ _ _ a.layout.plan.now a.layout.slots.now (passed size a.area walk) (just x y) (passed size a.area c.next.new.self) i.size
+          (passed_more size a.area walk c.next.new.self x y i.within c.in-Some.ensures.steps) i.stows c.stow_pixel.ensures.stows;
     }
+
+pub returns-clause-stows : goal.returns-clause-stows
+returns-clause-stows g c f =
+    let a = c.args in
+    let l = c.loop-x in
+    let size : Size = sizes (g.S.Bitmap.picture c.args.screen.now) in
+    stowed_as (g.S.Bitmap.picture a.screen.now) a.layout.plan.now a.layout.slots.now (passed size a.area l.x-iterator) (on_screen a.layout.plan.now.screen a.area) _ _
+    (λ x y. ap (λ (z : Size). on_screen z a.area x y) f.sized ∙ passed_all size a.area l.x-iterator c.in-None.ensures.steps x y) (l.invariant.stows f)
