@@ -6,9 +6,10 @@ use Rattle.raster.specs.declared.size.Size.{Size}
 use Rattle.paper.specs.Layers.{new_desk}
 use Rattle.paper.specs.Slots.{slots_of, hidden_count}
 use Rattle.plan.specs.declared.plan.Plan.{Plan}
-use Rattle.plan.specs.declared.slots.Slots.{Slots}
-use Rattle.plan.specs.Plans.{has_slot, hidden_patch}
-use Rattle.plan.specs.Allots.{passing}
+use Rattle.slots.specs.declared.slots.Slots.{Slots}
+use Rattle.plan.specs.Plans.{hidden_patch}
+use Rattle.slots.specs.Tables.{has_slot}
+use Rattle.plan.specs.Counts.{passing}
 use Rattle.plan.proofs.Regroup.{tally_alike, counted_tally}
 use Rattle.plan.proofs.Lawful.{hidden_counted}
 use Rattle.hold.specs.Held.{Fitting, paper_of}

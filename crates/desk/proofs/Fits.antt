@@ -9,7 +9,7 @@ use Rattle.raster.specs.Blt.{inside}
 use Rattle.raster.specs.Calls.{unless, refuse_if, bitmap_fault, read_at}
 use Rattle.raster.specs.declared.fault.Fault.{Fault}
 use Rattle.raster.specs.declared.refusal.Refusal.TheVariants.{OutsideBitmap}
-use Rattle.paper.specs.Desk.{client_if, because, top_answer}
+use Rattle.paper.specs.Desk.{client_if, because, top_answer, unnamed}
 use Rattle.paper.proofs.Layers.{not_some}
 use Rattle.paper.specs.Slots.{slots_of}
 use Rattle.plan.specs.Frames.{has}
@@ -82,13 +82,13 @@ module _ (screen store : Picture) (b : Book) where
 
   -- the topmost client
   module _ (x y : ℤ) where
-    pub top_off : inside (sizes screen) x y ≡ false → top_answer (on_pictures screen store b) x y ≡ Err (because OutsideBitmap 255)
+    pub top_off : inside (sizes screen) x y ≡ false → top_answer (on_pictures screen store b) x y ≡ Err (unnamed OutsideBitmap)
     unfolding top_answer
-    top_off e = ap (λ t. unless (refuse_if (not t) (because OutsideBitmap 255)) (client_if (topmost (on_pictures screen store b).layers x y))) (ap (λ (z : Size). inside z x y) paper_size ∙ e)
+    top_off e = ap (λ t. unless (refuse_if (not t) (unnamed OutsideBitmap)) (client_if (topmost (on_pictures screen store b).layers x y))) (ap (λ (z : Size). inside z x y) paper_size ∙ e)
 
     top_on : inside (sizes screen) x y ≡ true → top_answer (on_pictures screen store b) x y ≡ Ok (client_if (topmost (on_pictures screen store b).layers x y))
     unfolding top_answer
-    top_on e = ap (λ t. unless (refuse_if (not t) (because OutsideBitmap 255)) (client_if (topmost (on_pictures screen store b).layers x y))) (ap (λ (z : Size). inside z x y) paper_size ∙ e)
+    top_on e = ap (λ t. unless (refuse_if (not t) (unnamed OutsideBitmap)) (client_if (topmost (on_pictures screen store b).layers x y))) (ap (λ (z : Size). inside z x y) paper_size ∙ e)
 
     pub top_fits : inside (sizes screen) x y ≡ true → made_for screen store b ≡ true → top_answer (on_pictures screen store b) x y ≡ Ok (client_if (topmost (layers_in b.plan) x y))
     top_fits e t =

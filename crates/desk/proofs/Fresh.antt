@@ -12,8 +12,8 @@ use Rattle.paper.specs.Layers.{new_desk, blank}
 use Rattle.paper.specs.Slots.{slots_of, hidden_count}
 use Rattle.paper.specs.Desk.{slots_answer}
 use Rattle.paper.specs.Run.{new_state}
-use Rattle.plan.specs.Plans.{has_slot}
-use Rattle.plan.specs.Allots.{passing}
+use Rattle.slots.specs.Tables.{has_slot}
+use Rattle.plan.specs.Counts.{passing}
 use Rattle.hold.specs.Held.{held, layers_with, paper_of}
 use Rattle.moving.specs.Phases.{on_screen}
 use Rattle.moving.proofs.Blanks.{filled_zero}

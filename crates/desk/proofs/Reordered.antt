@@ -1,5 +1,5 @@
 -- Raising, lowering and closing a layer.
-use Rattle.std.proofs.Common.{◌≡◌, ℕ, ◌<◌, ◌≤◌, true, false, not, ◌&&◌, eqb, [], ◌∷◌, Some, Ok, Err, Result, sym, refl, ap, ◌∙◌}
+use Rattle.std.proofs.Common.{◌≡◌, ℕ, ◌<◌, ◌≤◌, true, false, not, ◌&&◌, eqb, [], ◌∷◌, Some, Ok, Err, Result, sym, refl, ap, ◌∙◌, None}
 use Rattle.raster.specs.Picture.{Picture, sizes, Sound}
 use Rattle.raster.specs.Calls.{unless, first_fault}
 use Rattle.raster.specs.declared.refusal.Refusal.TheVariants.{TooFewSlots}
@@ -8,13 +8,14 @@ use Rattle.paper.specs.Layers as paper
 use Rattle.paper.specs.Layers.{without}
 use Rattle.paper.specs.Desk.{Call, close_layer, client_of, no_client, not_open, because, change, accepted_value, fault_of, too_few_slots}
 use Rattle.paper.specs.Run.{Does}
-use Rattle.plan.specs.declared.frame.Frame.{Frame}
+use Rattle.raster.specs.declared.rectangle.Rectangle.{Rectangle}
 use Rattle.plan.specs.declared.plan.Plan.{Plan}
-use Rattle.plan.specs.declared.slots.Slots.{Slots}
+use Rattle.slots.specs.declared.slots.Slots.{Slots}
 use Rattle.plan.specs.Frames.{has}
 use Rattle.plan.specs.Plans.{listed, layers_in, frame_in, needs}
 use Rattle.plan.specs.Arranged.{Arranged, SameFrames}
-use Rattle.plan.specs.Allots.{passing, Supplied}
+use Rattle.plan.specs.Counts.{passing}
+use Rattle.slots.specs.Allots.{Supplied}
 use Rattle.plan.specs.Laws.{AllStillOpen}
 use Rattle.plan.proofs.Lawful.{plan_laws_lem}
 use Rattle.hold.specs.Held.{held, paper_of}
@@ -42,8 +43,8 @@ module _ (p q : Plan) (c : ℕ) where
   order_screen (lowers a f) = a.screen
 
   order_still : {call : Call} → Reorders p q c call → AllStillOpen p q
-  order_still (raises a f) d h = record { listed_after = a.clients d ∙ h; wide = ap (λ (z : Frame). z.w) (sym (f d)); high = ap (λ (z : Frame). z.h) (sym (f d)) }
-  order_still (lowers a f) d h = record { listed_after = a.clients d ∙ h; wide = ap (λ (z : Frame). z.w) (sym (f d)); high = ap (λ (z : Frame). z.h) (sym (f d)) }
+  order_still (raises a f) d h = record { listed_after = a.clients d ∙ h; wide = ap (λ (z : Rectangle). z.w) (sym (f d)); high = ap (λ (z : Rectangle). z.h) (sym (f d)) }
+  order_still (lowers a f) d h = record { listed_after = a.clients d ∙ h; wide = ap (λ (z : Rectangle). z.w) (sym (f d)); high = ap (λ (z : Rectangle). z.h) (sym (f d)) }
 
   order_leads : (s m : Picture) (t : Slots) {call : Call} → Reorders p q c call → desk_with s m q (held s m p t) ≡ change (paper_of s m p t) call
   unfolding paper_of
@@ -86,23 +87,23 @@ module _ (s m : Picture) (b : Book) (c : ℕ) where
       last_check : fault_of (on_pictures s m b) call ≡ too_few_slots (λ _. false) (on_pictures s m b) call
       last_check = order_checks b.plan q c (on_pictures s m b) r ∙ check_rest s m b c ok (too_few_slots (λ _. false) (on_pictures s m b) call ∷ []) ∙ one_check (too_few_slots (λ _. false) (on_pictures s m b) call)
 
-      pub order_few : (f : DeskFault) → b.slots.places < passing (needs b.plan q 255) → f ≡ because TooFewSlots c → Does (state_on s m b) call (Err f) (state_on s m b)
+      pub order_few : (f : DeskFault) → b.slots.places < passing (needs b.plan q None) → f ≡ because TooFewSlots c → Does (state_on s m b) call (Err f) (state_on s m b)
       order_few f few e =
           refused_does s m b call f
-          (last_check ∙ too_few s m b listed_now.0 q (held s m b.plan b.slots) call (λ _. false) 255 (order_leads b.plan q c s m b.slots r) (order_screen b.plan q c r)
+          (last_check ∙ too_few s m b listed_now.0 q (held s m b.plan b.slots) call (λ _. false) None (order_leads b.plan q c s m b.slots r) (order_screen b.plan q c r)
           (plan_laws_lem.unmoved b.plan q 0 (order_still b.plan q c r)) few
           ∙ ap Some (ap (because TooFewSlots) (order_client b.plan q c r) ∙ sym e))
 
-      pub order_does : (s' m' : Picture) (b' : Book) (t' : Slots) → Sound s → passing (needs b.plan q 255) ≤ b.slots.places → Supplied b.slots (needs b.plan q 255) t'
+      pub order_does : (s' m' : Picture) (b' : Book) (t' : Slots) → Sound s → passing (needs b.plan q None) ≤ b.slots.places → Supplied b.slots (needs b.plan q None) t'
           → Settled q t' b' → Rearranges b.plan q t' (frame_in b.plan c) s m s' m' → Does (state_on s m b) call (Ok 0) (state_on s' m' b')
       order_does s' m' b' t' sound many supplied settled moves =
           let p = b.plan in
           let fit = sized s m b listed_now.0 t' supplied.places in
-          let way = (moving_laws_lem.supplied p q b.slots t' b'.slots 255 b.held supplied settled.slots).0 in
+          let way = (moving_laws_lem.supplied p q b.slots t' b'.slots None b.held supplied settled.slots).0 in
           settles s m b listed_now.0 s' m' b' q t' call moves.screen_size moves.store_size (order_screen p q c r) supplied.places settled
           (order_leaves p q c s m s' m' b.slots t' b'.slots (begins s m b listed_now.0 q t' b'.slots sound way) listed_now.1 r
           (moves.stowed fit) (moves.repaints (repaint_fits s m m' p q t' moves.store_size (order_screen p q c r) fit)))
-          (last_check ∙ enough s m b listed_now.0 q (held s m p b.slots) call (λ _. false) 255 (order_leads p q c s m b.slots r) (order_screen p q c r)
+          (last_check ∙ enough s m b listed_now.0 q (held s m p b.slots) call (λ _. false) None (order_leads p q c s m b.slots r) (order_screen p q c r)
           (plan_laws_lem.unmoved p q 0 (order_still p q c r)) many)
           (order_value p q c (on_pictures s m b) r)
 

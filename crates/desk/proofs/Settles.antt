@@ -1,5 +1,5 @@
 -- Going over to another arrangement: from the pictures of screen and store to the desk on paper.
-use Rattle.std.proofs.Common.{◌≡◌, ℕ, ◌<◌, ◌≤◌, Bool, true, ◌&&◌, eqb, ltb, Some, None, Ok, sym, refl, ap, ◌∙◌, subst, ap₂}
+use Rattle.std.proofs.Common.{◌≡◌, ℕ, ◌<◌, ◌≤◌, Bool, true, ◌&&◌, eqb, ltb, Some, None, Ok, sym, refl, ap, ◌∙◌, subst, ap₂, Option}
 use Rattle.std.proofs.lemmas.Bool.{lt-ltb, le-ltb}
 use Rattle.raster.specs.Picture.{Picture, sizes, Sound}
 use Rattle.raster.specs.Calls.{refuse_if}
@@ -12,9 +12,9 @@ use Rattle.paper.specs.Desk.{Call, client_of, because, change, accepted_value, f
 use Rattle.paper.specs.Run.{Becomes, Does}
 use Rattle.paper.proofs.View.{answer_accepted, after_accepted}
 use Rattle.plan.specs.declared.plan.Plan.{Plan}
-use Rattle.plan.specs.declared.slots.Slots.{Slots}
+use Rattle.slots.specs.declared.slots.Slots.{Slots}
 use Rattle.plan.specs.Plans.{listed, needs}
-use Rattle.plan.specs.Allots.{passing}
+use Rattle.plan.specs.Counts.{passing}
 use Rattle.plan.specs.Laws.{desk_in}
 use Rattle.hold.specs.Held.{Pixels, paper_of}
 use Rattle.hold.proofs.Asks.{outlines_with, needed_same, paper_outlines}
@@ -37,7 +37,7 @@ module _ (s m : Picture) (b : Book) (fits : made_for s m b ≡ true) where
   begins q t' t'' sound slots = record { sound = sound; fitting = sized b.slots refl; slots = slots }
 
   -- the count that the refusal asks for
-  module _ (q : Plan) (px : Pixels) (call : Call) (also : ℕ → Bool) (moved : ℕ) (leads : desk_with s m q px ≡ change (paper_of s m b.plan b.slots) call)
+  module _ (q : Plan) (px : Pixels) (call : Call) (also : ℕ → Bool) (moved : Option ℕ) (leads : desk_with s m q px ≡ change (paper_of s m b.plan b.slots) call)
       (screens : q.screen ≡ b.plan.screen) (counts : passing (needs b.plan q moved) ≡ slots_needed also (desk_in b.plan 0) (desk_in q 0)) where
     needed : slots_needed also (on_pictures s m b) (change (on_pictures s m b) call) ≡ passing (needs b.plan q moved)
     unfolding paper_of

@@ -1,7 +1,8 @@
 -- Stamping on a layer: from the pictures of screen and store to the desk on paper.
 use Rattle.std.proofs.Common.{◌≡◌, ℕ, true, false, ltb, List, [], ◌∷◌, Some, None, Ok, Option, Result, sym, refl, ap, ◌∙◌, subst}
 use Rattle.raster.specs.Picture.{Picture, sizes}
-use Rattle.raster.specs.Blt.{Transfer, from_picture, count, blt}
+use Rattle.raster.specs.Blt.{from_picture, count, blt}
+use Rattle.raster.specs.declared.transfer.Transfer.{Transfer}
 use Rattle.raster.specs.Calls.{unless, first_fault, refuse_if}
 use Rattle.raster.specs.Clip.{Clipped}
 use Rattle.raster.specs.declared.refusal.Refusal.TheVariants.{RuleAboveFifteen, ValueTooLarge}

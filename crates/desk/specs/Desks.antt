@@ -7,8 +7,8 @@ use Rattle.paper.specs.Layers as paper
 use Rattle.paper.specs.Layers.{new_desk}
 use Rattle.paper.specs.Slots.{slots_of}
 use Rattle.paper.specs.Run.{State}
-use Rattle.plan.specs.Plans.{has_slot}
-use Rattle.plan.specs.Allots.{passing}
+use Rattle.slots.specs.Tables.{has_slot}
+use Rattle.plan.specs.Counts.{passing}
 use Rattle.hold.specs.Held.{paper_of}
 use Rattle.desk.specs.declared.book.Book.{Book}
 use Rattle.desk.specs.declared.desk.Desk.{Desk}

@@ -5,13 +5,14 @@ use Rattle.raster.specs.declared.size.Size.{Size}
 use Rattle.paper.specs.declared.DeskFault.{DeskFault}
 use Rattle.paper.specs.Layers.{only, without}
 use Rattle.paper.specs.Desk.{Call, raise_layer, lower_layer, Answer}
-use Rattle.plan.specs.declared.frame.Frame.{Frame}
+use Rattle.raster.specs.declared.rectangle.Rectangle.{Rectangle}
 use Rattle.plan.specs.declared.plan.Plan.{Plan}
-use Rattle.plan.specs.declared.slots.Slots.{Slots}
+use Rattle.slots.specs.declared.slots.Slots.{Slots}
 use Rattle.plan.specs.Frames.{has}
-use Rattle.plan.specs.Plans.{listed, layers_in, hidden_patch, has_slot}
+use Rattle.plan.specs.Plans.{listed, layers_in, hidden_patch}
+use Rattle.slots.specs.Tables.{has_slot}
 use Rattle.plan.specs.Arranged.{Arranged, SameFrames}
-use Rattle.plan.specs.Allots.{Retained}
+use Rattle.slots.specs.Allots.{Retained}
 use Rattle.moving.specs.Phases.{Fitting, on_screen, Stowed, repainted}
 use Rattle.desk.specs.declared.book.Book.{Book}
 
@@ -36,14 +37,14 @@ pub record Fresh (screen : Size) (places : ℕ) (b : Book) : Type 0 where
   pub slots : b.slots.places ≡ min places 4096
 
 -- What showed in an area of the screen was stowed by the arrangement p, and the area repainted by q, with the slots of t.
-pub record Rearranges (p q : Plan) (t : Slots) (area : Frame) (screen store screen' store' : Picture) : Type 0 where
+pub record Rearranges (p q : Plan) (t : Slots) (area : Rectangle) (screen store screen' store' : Picture) : Type 0 where
   pub screen_size : sizes screen' ≡ sizes screen
   pub store_size : sizes store' ≡ sizes store
   pub stowed : Fitting screen store p t → Stowed screen p t (on_screen p.screen area) store store'
   pub repaints : Fitting screen store' q t → screen' ≡ repainted store' q t (on_screen q.screen area) screen
 
 -- The same of two areas, one after the other.
-pub record Carries (p q : Plan) (t : Slots) (old new : Frame) (screen store screen' store' : Picture) : Type 0 where
+pub record Carries (p q : Plan) (t : Slots) (old new : Rectangle) (screen store screen' store' : Picture) : Type 0 where
   pub screen_size : sizes screen' ≡ sizes screen
   pub store_size : sizes store' ≡ sizes store
   pub stowed : Fitting screen store p t

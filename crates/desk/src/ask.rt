@@ -5,33 +5,27 @@ ghost use Rattle.raster.specs.Picture.{sizes};
 ghost use Rattle.paper.specs.Layers.{is_open, pane};
 ghost use Rattle.paper.specs.Slots.{slots_of};
 ghost use Rattle.paper.specs.Desk.{because, no_client, not_open, top_answer};
-ghost use Rattle.desk.specs.Desks.{same_size, made_for, on_paper};
+ghost use Rattle.desk.specs.Desks.{made_for, on_paper};
 
 use crate::desk::Desk;
 use paper::DeskFault;
 use raster::{Bitmap, Refusal, Size};
 
-/// A fault of the desk's own.
+/// A fault of the desk's own, of a call that names a client.
 pub(crate) fn because(refusal: Refusal, client: u8) -> DeskFault
     ensures { result ≡ because refusal client }
 {
     DeskFault {
         refusal,
-        client,
+        client: Some(client),
         bitmap: None,
     }
 }
 
-/// Whether two sizes are the same.
-fn same_size(a: Size, b: Size) -> bool
-    ensures { result ≡ same_size a b }
-{
-    a.width == b.width && a.height == b.height && a.depth == b.depth
-}
-
 /// How many slots a store has for a screen of a depth.
 pub(crate) fn slots_there(store: Size, depth: u8) -> u16
-    requires { (store.width ≤ 1024) × (store.height ≤ 1024) }
+    requires wide { store.width ≤ 1024 }
+    requires high { store.height ≤ 1024 }
     ensures { result ≡ slots_of store depth }
 {
     if store.depth < depth {
@@ -46,7 +40,7 @@ impl<S: Bitmap, T: Bitmap> Desk<S, T> {
         ensures { screen ≡ sizes (S.Bitmap.picture self.now.screen) → result ≡ made_for (S.Bitmap.picture self.now.screen) (T.Bitmap.picture self.now.store) self.now.book }
     {
         let slots = slots_there(self.store.size(), screen.depth);
-        same_size(self.book.plan.screen(), screen) && self.book.slots.places() == slots
+        self.book.plan.screen() == screen && self.book.slots.places() == slots
     }
 
     /// Whether the book was made for the screen and the store.
@@ -109,7 +103,11 @@ impl<S: Bitmap, T: Bitmap> Desk<S, T> {
     {
         let screen = self.screen.size();
         if screen.read_place(x, y).is_err() {
-            return Err(because(Refusal::OutsideBitmap, 255));
+            return Err(DeskFault {
+                refusal: Refusal::OutsideBitmap,
+                client: None,
+                bitmap: None,
+            });
         }
         if !self.suits(screen) {
             return Ok(None);

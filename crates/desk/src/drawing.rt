@@ -1,5 +1,4 @@
 //! Drawing on a layer.
-ghost use Rattle.raster.specs.Blt.{transfer};
 ghost use Rattle.raster.specs.Picture.{sizes};
 ghost use Rattle.raster.specs.Calls.{BitmapCall, Unaltered};
 ghost use Rattle.raster.specs.Blits.{Prepares};
@@ -13,7 +12,7 @@ use crate::desk::Desk;
 use crate::read::carried;
 use draw::paint;
 use paper::DeskFault;
-use raster::{Bitmap, Blit, Fault};
+use raster::{Bitmap, Blit, Fault, Rectangle, Transfer};
 
 impl<S: Bitmap, T: Bitmap> Desk<S, T> {
     /// Performs a fill or a scroll on the client's layer, as it was prepared for a bitmap of the layer's size.
@@ -23,58 +22,28 @@ impl<S: Bitmap, T: Bitmap> Desk<S, T> {
         ensures refused { Unaltered result self.old self.new }
     {
         self.check_open(c)?;
-        match prepared {
-            Err(f) => Err(carried(c, f)),
-            Ok(blit) => {
-                paint(
-                    &mut self.screen,
-                    &mut self.store,
-                    &self.book.plan,
-                    &self.book.slots,
-                    c,
-                    blit,
-                );
-                Ok(blit.count())
-            }
-        }
+        let blit = carried(c, prepared)?;
+        paint(&mut self.screen, &mut self.store, self.book.layer(c), blit);
+        Ok(blit.count())
     }
 
-    /// BitBlt onto the client's layer from a source that has the value `v` everywhere; the count of pixels concerned.
-    pub fn fill(
-        &mut self,
-        c: u8,
-        rule: u8,
-        v: u8,
-        x: i16,
-        y: i16,
-        w: u16,
-        h: u16,
-    ) -> Result<u32, DeskFault>
-        ensures does { Does (state_of S.Bitmap T.Bitmap self.old) (fill_layer c rule v x y w h) result (state_of S.Bitmap T.Bitmap self.new) }
+    /// BitBlt onto a rectangle of the client's layer from a source that has the value `v` everywhere; the count of pixels concerned.
+    pub fn fill(&mut self, c: u8, rule: u8, v: u8, area: Rectangle) -> Result<u32, DeskFault>
+        ensures does { Does (state_of S.Bitmap T.Bitmap self.old) (fill_layer c rule v area.x area.y area.w area.h) result (state_of S.Bitmap T.Bitmap self.new) }
         ensures rest { Keeps S.Bitmap T.Bitmap self.old self.new }
         ensures refused { Unaltered result self.old self.new }
     {
-        let prepared = Blit::fill(self.pane_size(c), rule, v, x, y, w, h);
+        let prepared = Blit::fill(self.pane_size(c), rule, v, area);
         self.perform(c, prepared)
     }
 
     /// BitBlt within the client's layer; the count of pixels concerned.
-    pub fn scroll(
-        &mut self,
-        c: u8,
-        rule: u8,
-        sx: i16,
-        sy: i16,
-        dx: i16,
-        dy: i16,
-        w: u16,
-        h: u16,
-    ) -> Result<u32, DeskFault>
-        ensures does { Does (state_of S.Bitmap T.Bitmap self.old) (scroll_layer c (transfer rule sx sy dx dy w h)) result (state_of S.Bitmap T.Bitmap self.new) }
+    pub fn scroll(&mut self, c: u8, transfer: Transfer) -> Result<u32, DeskFault>
+        ensures does { Does (state_of S.Bitmap T.Bitmap self.old) (scroll_layer c transfer) result (state_of S.Bitmap T.Bitmap self.new) }
         ensures rest { Keeps S.Bitmap T.Bitmap self.old self.new }
         ensures refused { Unaltered result self.old self.new }
     {
-        let prepared = Blit::scroll(self.pane_size(c), rule, sx, sy, dx, dy, w, h);
+        let prepared = Blit::scroll(self.pane_size(c), transfer);
         self.perform(c, prepared)
     }
 }

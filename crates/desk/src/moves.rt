@@ -7,24 +7,32 @@ ghost use Rattle.desk.specs.Moves.{done, Serves, Settled, Carries};
 
 use crate::book::Book;
 use crate::desk::Desk;
+use hold::Layout;
 use moving::{repaint, stow};
 use paper::DeskFault;
-use plan::{Frame, Plan, Slots};
-use raster::Bitmap;
+use plan::Plan;
+use raster::{Bitmap, Rectangle};
+use slots::Slots;
 
 impl<S: Bitmap, T: Bitmap> Desk<S, T> {
     /// Goes over to an arrangement in which a layer has left one area for another: what shows in both is stowed, and both are
     /// repainted.
-    fn carry(&mut self, after: Plan, slots: &Slots, old: Frame, new: Frame)
+    fn carry(&mut self, after: Plan, slots: &Slots, old: Rectangle, new: Rectangle)
         requires { Serves after slots.now }
         ensures book { Settled after slots.now self.new.book }
         ensures pixels { Carries self.old.book.plan after slots.now old new (S.Bitmap.picture self.old.screen) (T.Bitmap.picture self.old.store) (S.Bitmap.picture self.new.screen) (T.Bitmap.picture self.new.store) }
         ensures rest { Keeps S.Bitmap T.Bitmap self.old self.new }
     {
-        stow(&self.screen, &mut self.store, &self.book.plan, slots, old);
-        stow(&self.screen, &mut self.store, &self.book.plan, slots, new);
-        repaint(&mut self.screen, &self.store, &after, slots, old);
-        repaint(&mut self.screen, &self.store, &after, slots, new);
+        let Book { plan, .. } = &self.book;
+        let before = Layout { plan, slots };
+        let later = Layout {
+            plan: &after,
+            slots,
+        };
+        stow(&self.screen, &mut self.store, before, old);
+        stow(&self.screen, &mut self.store, before, new);
+        repaint(&mut self.screen, &self.store, later, old);
+        repaint(&mut self.screen, &self.store, later, new);
         self.book = Book::settled(after, slots);
     }
 
@@ -36,7 +44,7 @@ impl<S: Bitmap, T: Bitmap> Desk<S, T> {
     {
         self.check_open(c)?;
         let after = self.book.plan.moved(c, x, y);
-        let slots = self.book.slots_for(c, &after, c)?;
+        let slots = self.book.slots_for(c, &after, Some(c))?;
         let old = self.book.plan.frame(c);
         let new = after.frame(c);
         self.carry(after, &slots, old, new);

@@ -12,10 +12,12 @@ ghost use Rattle.desk.specs.Moves.{done, Fresh};
 use crate::ask::{because, slots_there};
 use crate::book::Book;
 use crate::desk::Desk;
+use hold::Layout;
 use moving::{blank, stow};
 use paper::DeskFault;
-use plan::{Frame, Plan, Slots};
-use raster::{Bitmap, Refusal, Size};
+use plan::Plan;
+use raster::{Bitmap, Rectangle, Refusal, SOURCE, Size};
+use slots::Slots;
 
 impl Book {
     /// The book of a new desk, with a screen of a size and a number of slots.
@@ -31,14 +33,14 @@ impl Book {
 
 impl<S: Bitmap, T: Bitmap> Desk<S, T> {
     /// A desk without layers; the screen is 0 everywhere.
-    pub fn new(screen: S, store: T) -> Desk<S, T>
+    pub fn new(mut screen: S, store: T) -> Desk<S, T>
         ensures state { state_of S.Bitmap T.Bitmap result ≡ new_state (sizes (S.Bitmap.picture screen)) (slots_of (sizes (T.Bitmap.picture store)) (S.Bitmap.picture screen).depth) }
         ensures screen { S.Bitmap.keeps screen result.screen }
         ensures store { result.store ≡ store }
     {
-        let mut screen = screen;
         let size = screen.size();
-        let _ = screen.fill(3, 0, 0, 0, size.width, size.height);
+        let all = Rectangle::new(0, 0, size.width, size.height);
+        let _ = screen.fill(SOURCE, 0, all);
         let places = slots_there(store.size(), size.depth);
         Desk {
             screen,
@@ -95,19 +97,22 @@ impl<S: Bitmap, T: Bitmap> Desk<S, T> {
     }
 
     /// Opens a layer of the client on top of all others, 0 everywhere.
-    pub fn open(&mut self, c: u8, x: i16, y: i16, w: u16, h: u16) -> Result<(), DeskFault>
-        ensures does { Does (state_of S.Bitmap T.Bitmap self.old) (open_layer c x y w h) (done result) (state_of S.Bitmap T.Bitmap self.new) }
+    pub fn open(&mut self, c: u8, frame: Rectangle) -> Result<(), DeskFault>
+        ensures does { Does (state_of S.Bitmap T.Bitmap self.old) (open_layer c frame.x frame.y frame.w frame.h) (done result) (state_of S.Bitmap T.Bitmap self.new) }
         ensures rest { Keeps S.Bitmap T.Bitmap self.old self.new }
         ensures refused { Unaltered result self.old self.new }
     {
-        self.check_new(c, w, h)?;
+        self.check_new(c, frame.w, frame.h)?;
         let book = self.current();
-        let frame = Frame { x, y, w, h };
         let after = book.plan.opened(c, frame);
-        let slots = book.slots_for(c, &after, 255)?;
-        stow(&self.screen, &mut self.store, &book.plan, &slots, frame);
+        let slots = book.slots_for(c, &after, None)?;
+        let layout = Layout {
+            plan: &book.plan,
+            slots: &slots,
+        };
+        stow(&self.screen, &mut self.store, layout, frame);
         blank(&mut self.store, &slots, c);
-        let _ = self.screen.fill(3, 0, x, y, w, h);
+        let _ = self.screen.fill(SOURCE, 0, frame);
         self.book = Book::settled(after, &slots);
         Ok(())
     }

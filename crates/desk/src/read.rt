@@ -1,23 +1,23 @@
 //! Reading a layer.
-ghost use Rattle.std.specs.Prelude.{◌≡◌};
+ghost use Rattle.std.specs.Prelude.{◌≡◌, Ok, Err, MatchResult};
 ghost use Rattle.paper.specs.Desk.{answer, read_layer};
 ghost use Rattle.desk.specs.Desks.{on_paper};
+ghost use Rattle.raster.specs.declared.fault.Fault.{Fault};
 ghost use Rattle.desk.specs.Carried.{carry};
 
 use crate::desk::Desk;
-use hold::read_pixel;
 use paper::DeskFault;
 use raster::{Bitmap, Fault};
 
-/// A fault of the client's own bitmap.
-pub(crate) fn carried(client: u8, fault: Fault) -> DeskFault
-    ensures { result ≡ carry client fault }
+/// What the client's own bitmap answers, its fault carried whole.
+pub(crate) fn carried<A: Copy>(client: u8, answer: Result<A, Fault>) -> Result<A, DeskFault>
+    ensures { MatchResult result (λ a. answer ≡ Ok a) (λ d. (f : Fault) × (answer ≡ Err f) × (d ≡ carry client f)) }
 {
-    DeskFault {
+    answer.map_err(|fault| DeskFault {
         refusal: fault.refusal,
-        client,
+        client: Some(client),
         bitmap: Some(fault),
-    }
+    })
 }
 
 impl<S: Bitmap, T: Bitmap> Desk<S, T> {
@@ -26,17 +26,11 @@ impl<S: Bitmap, T: Bitmap> Desk<S, T> {
         ensures { result ≡ answer (on_paper S.Bitmap T.Bitmap self.now) (read_layer c x y) }
     {
         self.check_open(c)?;
-        match self.pane_size(c).read_place(x, y) {
-            Err(f) => Err(carried(c, f)),
-            Ok((u, v)) => Ok(read_pixel(
-                &self.screen,
-                &self.store,
-                &self.book.plan,
-                &self.book.slots,
-                c,
-                u,
-                v,
-            )),
-        }
+        let (u, v) = carried(c, self.pane_size(c).read_place(x, y))?;
+        Ok(
+            self.book
+                .layer(c)
+                .read_pixel(&self.screen, &self.store, u, v),
+        )
     }
 }

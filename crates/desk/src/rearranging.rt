@@ -5,27 +5,39 @@ ghost use Rattle.raster.specs.declared.refusal.Refusal.TheVariants.{TooFewSlots}
 ghost use Rattle.paper.specs.Desk.{Call, because, close_layer, raise_layer, lower_layer};
 ghost use Rattle.paper.specs.Run.{Does};
 ghost use Rattle.plan.specs.Plans.{needs};
-ghost use Rattle.plan.specs.Allots.{passing, Supplied};
+ghost use Rattle.plan.specs.Counts.{passing};
+ghost use Rattle.slots.specs.Allots.{Supplied};
 ghost use Rattle.desk.specs.Desks.{state_of, Keeps};
 ghost use Rattle.desk.specs.Moves.{done, Serves, Settled, Rearranges, Reorders};
 
 use crate::ask::because;
 use crate::book::Book;
 use crate::desk::Desk;
+use hold::Layout;
 use moving::{repaint, stow};
 use paper::DeskFault;
-use plan::{Frame, Plan, Slots};
-use raster::{Bitmap, Refusal};
+use plan::{Change, Plan};
+use raster::{Bitmap, Rectangle, Refusal};
+use slots::Slots;
 
 impl Book {
     /// The table of slots for the time in which the arrangement becomes another, or the client's fault that there are too few.
-    pub(crate) fn slots_for(&self, c: u8, after: &Plan, moved: u8) -> Result<Slots, DeskFault>
+    pub(crate) fn slots_for(
+        &self,
+        c: u8,
+        after: &Plan,
+        moved: Option<u8>,
+    ) -> Result<Slots, DeskFault>
         ensures { MatchResult result (λ t. (passing (needs self.now.plan after.now moved) ≤ self.now.slots.places) × Supplied self.now.slots (needs self.now.plan after.now moved) t) (λ f. (self.now.slots.places < passing (needs self.now.plan after.now moved)) × (f ≡ because TooFewSlots c)) }
     {
-        match self.slots.allot(&self.plan, after, moved) {
-            Some(slots) => Ok(slots),
-            None => Err(because(Refusal::TooFewSlots, c)),
-        }
+        let change = Change {
+            before: &self.plan,
+            after,
+            moved,
+        };
+        self.slots
+            .allot(change)
+            .ok_or(because(Refusal::TooFewSlots, c))
     }
 
     /// The book of an arrangement, with the slots of the patches that are hidden in it.
@@ -42,14 +54,20 @@ impl Book {
 
 impl<S: Bitmap, T: Bitmap> Desk<S, T> {
     /// Goes over to another arrangement: what shows in an area is stowed, and the area is repainted.
-    fn rearrange(&mut self, after: Plan, slots: &Slots, area: Frame)
+    fn rearrange(&mut self, after: Plan, slots: &Slots, area: Rectangle)
         requires { Serves after slots.now }
         ensures book { Settled after slots.now self.new.book }
         ensures pixels { Rearranges self.old.book.plan after slots.now area (S.Bitmap.picture self.old.screen) (T.Bitmap.picture self.old.store) (S.Bitmap.picture self.new.screen) (T.Bitmap.picture self.new.store) }
         ensures rest { Keeps S.Bitmap T.Bitmap self.old self.new }
     {
-        stow(&self.screen, &mut self.store, &self.book.plan, slots, area);
-        repaint(&mut self.screen, &self.store, &after, slots, area);
+        let Book { plan, .. } = &self.book;
+        let before = Layout { plan, slots };
+        let later = Layout {
+            plan: &after,
+            slots,
+        };
+        stow(&self.screen, &mut self.store, before, area);
+        repaint(&mut self.screen, &self.store, later, area);
         self.book = Book::settled(after, slots);
     }
 
@@ -60,7 +78,7 @@ impl<S: Bitmap, T: Bitmap> Desk<S, T> {
         ensures refused { Unaltered result self.old self.new }
     {
         self.check_open(c)?;
-        let slots = self.book.slots_for(c, &after, 255)?;
+        let slots = self.book.slots_for(c, &after, None)?;
         let area = self.book.plan.frame(c);
         self.rearrange(after, &slots, area);
         Ok(())

@@ -1,6 +1,5 @@
 //! Stamping another bitmap on a layer.
 ghost use Rattle.std.specs.Prelude.{◌≡◌, Some, None, MatchResult};
-ghost use Rattle.raster.specs.Blt.{transfer};
 ghost use Rattle.raster.specs.Calls.{Unaltered, first_fault};
 ghost use Rattle.paper.specs.Desk.{stamp_layer};
 ghost use Rattle.paper.specs.Run.{Does};
@@ -11,7 +10,7 @@ use crate::ask::because;
 use crate::desk::Desk;
 use draw::stamp;
 use paper::DeskFault;
-use raster::{Bitmap, Refusal, Rule, Span};
+use raster::{Bitmap, Refusal, Rule, Span, Transfer};
 
 impl<S: Bitmap, T: Bitmap> Desk<S, T> {
     /// The rule of a stamp on the client's layer from a bitmap of a depth, or what is refused.
@@ -19,10 +18,7 @@ impl<S: Bitmap, T: Bitmap> Desk<S, T> {
         ensures { MatchResult result (λ x. (first_fault (stamp_checks c (on_paper S.Bitmap T.Bitmap self.now) rule depth) ≡ None) × (x.number ≡ rule)) (λ f. first_fault (stamp_checks c (on_paper S.Bitmap T.Bitmap self.now) rule depth) ≡ Some f) }
     {
         self.check_open(c)?;
-        let rule = match Rule::new(rule) {
-            Some(rule) => rule,
-            None => return Err(because(Refusal::RuleAboveFifteen, c)),
-        };
+        let rule = Rule::try_from(rule).map_err(|why| because(why, c))?;
         if depth > self.screen.size().depth {
             return Err(because(Refusal::ValueTooLarge, c));
         }
@@ -34,29 +30,31 @@ impl<S: Bitmap, T: Bitmap> Desk<S, T> {
         &mut self,
         c: u8,
         source: &B,
-        rule: u8,
-        sx: i16,
-        sy: i16,
-        dx: i16,
-        dy: i16,
-        w: u16,
-        h: u16,
+        transfer: Transfer,
     ) -> Result<u32, DeskFault>
-        ensures does { Does (state_of S.Bitmap T.Bitmap self.old) (stamp_layer c (transfer rule sx sy dx dy w h) (B.Bitmap.picture source.now)) result (state_of S.Bitmap T.Bitmap self.new) }
+        ensures does { Does (state_of S.Bitmap T.Bitmap self.old) (stamp_layer c transfer (B.Bitmap.picture source.now)) result (state_of S.Bitmap T.Bitmap self.new) }
         ensures rest { Keeps S.Bitmap T.Bitmap self.old self.new }
         ensures refused { Unaltered result self.old self.new }
     {
         let from = source.size();
+        let Transfer {
+            rule,
+            sx,
+            sy,
+            dx,
+            dy,
+            w,
+            h,
+        } = transfer;
         let rule = self.check_stamp(c, rule, from.depth)?;
         let size = self.pane_size(c);
         let columns = Span::clip(sx, dx, w, from.width, size.width);
         let rows = Span::clip(sy, dy, h, from.height, size.height);
+        let layer = self.book.layer(c);
         Ok(stamp(
             &mut self.screen,
             &mut self.store,
-            &self.book.plan,
-            &self.book.slots,
-            c,
+            layer,
             source,
             rule,
             columns,

@@ -8,7 +8,7 @@ use Rattle.raster.specs.Picture.{Picture, Sound}
 use Rattle.raster.proofs.Paints.{cond_less}
 use Rattle.paper.specs.Layers.{is_open, pane, blank}
 use Rattle.plan.specs.declared.plan.Plan.{Plan}
-use Rattle.plan.specs.declared.slots.Slots.{Slots}
+use Rattle.slots.specs.declared.slots.Slots.{Slots}
 use Rattle.plan.specs.Plans.{frame_in}
 use Rattle.hold.specs.declared.spot.Spot.{Spot}
 use Rattle.hold.specs.declared.spot.Spot.TheVariants.{Screen, Store}

@@ -5,7 +5,7 @@ ghost use Rattle.pane.specs.Sounds.{pane_sound};
 ghost use Rattle.pane.specs.Joins.{pane_same, pane_joins};
 
 use crate::pane::Pane;
-use raster::{Bitmap, Blit, Fault, Size};
+use raster::{Bitmap, Blit, Fault, Rectangle, SOURCE, Size, Transfer};
 
 impl<S: Bitmap, T: Bitmap> Bitmap for Pane<S, T> {
     ghost picture = { picture_of S.Bitmap T.Bitmap };
@@ -31,28 +31,21 @@ impl<S: Bitmap, T: Bitmap> Bitmap for Pane<S, T> {
 
     fn write(&mut self, x: i16, y: i16, v: u8) -> Result<u32, Fault> {
         self.size().write_place(x, y, v)?;
-        let _ = self.desk.fill(self.client, 3, v, x, y, 1, 1);
+        let _ = self
+            .desk
+            .fill(self.client, SOURCE, v, Rectangle::new(x, y, 1, 1));
         Ok(0)
     }
 
-    fn fill(&mut self, rule: u8, v: u8, x: i16, y: i16, w: u16, h: u16) -> Result<u32, Fault> {
-        let blit = Blit::fill(self.size(), rule, v, x, y, w, h)?;
-        let _ = self.desk.fill(self.client, rule, v, x, y, w, h);
+    fn fill(&mut self, rule: u8, v: u8, area: Rectangle) -> Result<u32, Fault> {
+        let blit = Blit::fill(self.size(), rule, v, area)?;
+        let _ = self.desk.fill(self.client, rule, v, area);
         Ok(blit.count())
     }
 
-    fn scroll(
-        &mut self,
-        rule: u8,
-        sx: i16,
-        sy: i16,
-        dx: i16,
-        dy: i16,
-        w: u16,
-        h: u16,
-    ) -> Result<u32, Fault> {
-        let blit = Blit::scroll(self.size(), rule, sx, sy, dx, dy, w, h)?;
-        let _ = self.desk.scroll(self.client, rule, sx, sy, dx, dy, w, h);
+    fn scroll(&mut self, transfer: Transfer) -> Result<u32, Fault> {
+        let blit = Blit::scroll(self.size(), transfer)?;
+        let _ = self.desk.scroll(self.client, transfer);
         Ok(blit.count())
     }
 }

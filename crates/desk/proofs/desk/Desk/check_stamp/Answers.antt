@@ -1,4 +1,4 @@
-use Rattle.std.proofs.Common.{ap, ◌∙◌, arith}
+use Rattle.std.proofs.Common.{◌≡◌, ap, ◌∙◌, arith, rules}
 use Rattle.std.proofs.lemmas.Bool.{lt-ltb, le-ltb}
 use Rattle.raster.specs.Calls.{refuse_if}
 use Rattle.raster.specs.declared.refusal.Refusal.TheVariants.{ValueTooLarge}
@@ -12,11 +12,11 @@ returns-then-depth-size g c =
     let d = a.self.now in
     let s = g.S.Bitmap.picture d.screen in
     let t = g.T.Bitmap.picture d.store in
-    let listed = c.in-Some.rule.listed in
-    let number = c.in-Some.ensures in
+    let listed = c.in_ok-rule.rule.listed in
+    let number : c.in_ok-rule.rule.number ≡ a.rule = search rules in
     let size = c.size.ensures in
     let taken = c.if-depth-size.true in
-    rw c.because-then-depth-size.ensures
+    rw c.because.ensures
     (stamp_last s t d.book a.c c.in_ok-check_open.ensures a.rule a.depth (le-ltb 15 a.rule (search arith))
     ∙ ap (λ z. refuse_if z (because ValueTooLarge a.c)) (lt-ltb s.depth a.depth (search arith)))
 
@@ -26,11 +26,11 @@ returns g c =
     let d = a.self.now in
     let s = g.S.Bitmap.picture d.screen in
     let t = g.T.Bitmap.picture d.store in
-    let listed = c.in-Some.rule.listed in
-    let number = c.in-Some.ensures in
+    let listed = c.in_ok-rule.rule.listed in
+    let number : c.in_ok-rule.rule.number ≡ a.rule = search rules in
     let size = c.size.ensures in
     let left = c.if-depth-size.false in (
       stamp_last s t d.book a.c c.in_ok-check_open.ensures a.rule a.depth (le-ltb 15 a.rule (search arith))
           ∙ ap (λ z. refuse_if z (because ValueTooLarge a.c)) (le-ltb s.depth a.depth (search arith)),
-      c.in-Some.ensures,
+      number,
     )

@@ -1,6 +1,6 @@
 use Rattle.std.proofs.Common.{refl, ◌∙◌, subst}
 use Rattle.std.proofs.lemmas.Result.{err_from_is_err_and}
-use Rattle.plan.specs.declared.frame.Frame.{Frame}
+use Rattle.raster.specs.declared.rectangle.Rectangle.{Rectangle}
 use Rattle.moving.proofs.Tables.{fewer}
 use Rattle.desk.specs.Moves.{Rearranges}
 use Rattle.desk.proofs.Reordered.{close_shut, close_does}
@@ -36,7 +36,7 @@ returns g c =
     record {
       does = close_does s t d.book a.c c.in_ok-check_open.ensures (g.S.Bitmap.picture e.screen) (g.T.Bitmap.picture e.store) e.book c.closed-after.result
           (g.met.S.Bitmap.sound d.screen) c.closed-after.ensures.arranged c.closed-after.ensures.frames c.rearrange.ensures.book
-          (subst (λ (z : Frame). Rearranges d.book.plan c.closed-after.result d.book.slots z s t (g.S.Bitmap.picture e.screen) (g.T.Bitmap.picture e.store)) c.frame-area.ensures c.rearrange.ensures.pixels);
+          (subst (λ (z : Rectangle). Rearranges d.book.plan c.closed-after.result d.book.slots z s t (g.S.Bitmap.picture e.screen) (g.T.Bitmap.picture e.store)) c.frame-area.ensures c.rearrange.ensures.pixels);
       rest = c.rearrange.ensures.rest;
       refused = tt;
     }

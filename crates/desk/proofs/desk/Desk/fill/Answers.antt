@@ -1,5 +1,4 @@
 use Rattle.std.proofs.Common.{subst}
-use Rattle.std.proofs.lemmas.Int.{to_z-of_z}
 use Rattle.raster.specs.Blits.{Prepares}
 use Rattle.raster.specs.Calls.{fill_with}
 use Rattle.raster.specs.declared.size.Size.{Size}
@@ -10,12 +9,11 @@ use Rattle.desk.proofs.desk.Desk.fill.Goals as goal
 pub returns : goal.returns
 returns g c =
     let a = c.args in
-    let fx = c.ranges.x in
-    let fy = c.ranges.y in
-    let call = fill_with a.rule a.v a.x a.y a.w a.h in
+    let r = a.area in
+    let call = fill_with a.rule a.v r.x r.y r.w r.h in
     record {
-      does = c.perform.ensures.does (fill_layer a.c a.rule a.v a.x a.y a.w a.h) call fills
-          (subst (λ (z : Size). Prepares z call c.fill-prepared.result) c.pane_size.ensures (simp to_z-of_z at c.fill-prepared.ensures));
+      does = c.perform.ensures.does (fill_layer a.c a.rule a.v r.x r.y r.w r.h) call fills
+          (subst (λ (z : Size). Prepares z call c.fill-prepared.result) c.pane_size.ensures c.fill-prepared.ensures);
       rest = c.perform.ensures.rest;
       refused = c.perform.ensures.refused;
     }

@@ -1,7 +1,7 @@
 use Rattle.std.proofs.Common.{◌≡◌, true, refl, subst, w16, to_z, of_z}
 use Rattle.std.proofs.lemmas.Result.{err_from_is_err_and}
 use Rattle.std.proofs.lemmas.Int.{to_z-of_z}
-use Rattle.plan.specs.declared.frame.Frame.{Frame}
+use Rattle.raster.specs.declared.rectangle.Rectangle.{Rectangle}
 use Rattle.plan.specs.Frames.{has}
 use Rattle.plan.specs.Plans.{listed, layers_in, frame_in}
 use Rattle.plan.specs.Arranged.{Arranged, cornered}
@@ -63,8 +63,8 @@ returns g c =
     record {
       does = move_does s t d.book a.c a.x a.y c.in_ok-check_open.ensures after arranged c.moved-after.ensures.frames own
           (g.S.Bitmap.picture e.screen) (g.T.Bitmap.picture e.store) e.book slots (g.met.S.Bitmap.sound d.screen) way.0 way.1 c.carry.ensures.book
-          (subst (λ (z : Frame). Carries d.book.plan after slots z (frame_in after a.c) s t (g.S.Bitmap.picture e.screen) (g.T.Bitmap.picture e.store)) c.frame-old.ensures
-          (subst (λ (z : Frame). Carries d.book.plan after slots c.frame-old.result z s t (g.S.Bitmap.picture e.screen) (g.T.Bitmap.picture e.store)) c.frame-new.ensures c.carry.ensures.pixels));
+          (subst (λ (z : Rectangle). Carries d.book.plan after slots z (frame_in after a.c) s t (g.S.Bitmap.picture e.screen) (g.T.Bitmap.picture e.store)) c.frame-old.ensures
+          (subst (λ (z : Rectangle). Carries d.book.plan after slots c.frame-old.result z s t (g.S.Bitmap.picture e.screen) (g.T.Bitmap.picture e.store)) c.frame-new.ensures c.carry.ensures.pixels));
       rest = c.carry.ensures.rest;
       refused = tt;
     }

@@ -1,14 +1,8 @@
-use Rattle.std.proofs.Common.{◌≡◌, refl, ap, ◌∙◌, w16, to_z, of_z}
+use Rattle.std.proofs.Common.{◌≡◌, refl, ap, ◌∙◌}
 use Rattle.std.proofs.lemmas.Result.{err_from_is_err_and}
-use Rattle.std.proofs.lemmas.Int.{to_z-of_z}
 use Rattle.raster.specs.Picture.{sizes}
 use Rattle.raster.specs.Calls.{fill_with, bitmap_after}
-use Rattle.paper.specs.Desk.{Answer, open_layer}
-use Rattle.paper.specs.Run.{State, Does}
-use Rattle.plan.specs.declared.frame.Frame.{Frame}
 use Rattle.moving.proofs.Areas.{fitting_same, fitting_few}
-use Rattle.desk.specs.Desks.{state_on}
-use Rattle.desk.proofs.Moved.{at_corner_passed}
 use Rattle.desk.proofs.Opens.{fill_sizes, open_shut, can, low, open_few, open_does}
 use Rattle.desk.proofs.Settles.{sized}
 use Rattle.desk.proofs.desk.Desk.open.Goals as goal
@@ -19,7 +13,7 @@ returns-in_err-check_new g c =
     let d = a.self.now in
     let s = g.S.Bitmap.picture d.screen in
     let t = g.T.Bitmap.picture d.store in
-    let f : Frame = record { x = a.x; y = a.y; w = a.w; h = a.h } in
+    let f = a.frame in
     let err = err_from_is_err_and c.from_residual.result c.from_residual.ensures.1 in
     rw (err.1, err.2)
     (record {
@@ -34,8 +28,7 @@ returns-in_err-slots g c =
     let d = a.self.now in
     let s = g.S.Bitmap.picture d.screen in
     let t = g.T.Bitmap.picture d.store in
-    let f : Frame = record { x = to_z w16 (of_z w16 a.x); y = to_z w16 (of_z w16 a.y); w = a.w; h = a.h } in
-    let at = λ (r : Answer) (e : State). at_corner_passed (λ x y. Does (state_on s t d.book) (open_layer a.c x y a.w a.h) r e) (to_z-of_z w16 a.x c.ranges.x) (to_z-of_z w16 a.y c.ranges.y) in
+    let f = a.frame in
     let b = c.current-book.result in
     let ok = c.in_ok-check_new.ensures in
     let fits = c.current-book.ensures.fits in
@@ -44,7 +37,7 @@ returns-in_err-slots g c =
     let err = err_from_is_err_and c.from_residual-in_err-slots.result c.from_residual-in_err-slots.ensures.1 in
     rw (err.1, err.2)
     (record {
-      does = at _ _ (open_few s t d.book a.c f b fits same ok c.opened-after.result (c.opened-after.ensures.arranged is) c.opened-after.ensures.frames
+      does = (open_few s t d.book a.c f b fits same ok c.opened-after.result (c.opened-after.ensures.arranged is) c.opened-after.ensures.frames
           _ c.in_err-slots.ensures.0 c.in_err-slots.ensures.1);
       rest = record { screen = g.met.S.Bitmap.same d.screen; store = g.met.T.Bitmap.same d.store };
       refused = refl;
@@ -56,8 +49,7 @@ returns g c =
     let d = a.self.now in
     let s = g.S.Bitmap.picture d.screen in
     let t = g.T.Bitmap.picture d.store in
-    let f : Frame = record { x = to_z w16 (of_z w16 a.x); y = to_z w16 (of_z w16 a.y); w = a.w; h = a.h } in
-    let at = λ (r : Answer) (e : State). at_corner_passed (λ x y. Does (state_on s t d.book) (open_layer a.c x y a.w a.h) r e) (to_z-of_z w16 a.x c.ranges.x) (to_z-of_z w16 a.y c.ranges.y) in
+    let f = a.frame in
     let b = c.current-book.result in
     let ok = c.in_ok-check_new.ensures in
     let fits = c.current-book.ensures.fits in
@@ -69,7 +61,7 @@ returns g c =
     let fit = sized s t b fits slots way.1.places in
     let zeros : g.S.Bitmap.picture c.fill.new.self ≡ bitmap_after s (fill_with 3 0 f.x f.y f.w f.h) = c.fill.ensures.after in
     record {
-      does = at _ _ (open_does s t d.book a.c f b fits same ok c.opened-after.result (c.opened-after.ensures.arranged is) c.opened-after.ensures.frames
+      does = (open_does s t d.book a.c f b fits same ok c.opened-after.result (c.opened-after.ensures.arranged is) c.opened-after.ensures.frames
           t₁ (g.S.Bitmap.picture c.fill.new.self) (g.T.Bitmap.picture c.blank.new.store) c.settled-self.result slots (g.met.S.Bitmap.sound d.screen) way.0 way.1
           (c.opened-after.ensures.own is) (ap sizes zeros ∙ fill_sizes s f) (c.blank.ensures.size ∙ c.stow.ensures.size) c.settled-self.ensures (c.stow.ensures.stows fit)
           (c.blank.ensures.blanks (low s t d.book a.c f b fits same ok) (fitting_few s t₁ b.plan slots (fitting_same s s t t₁ b.plan slots refl c.stow.ensures.size fit))) zeros);

@@ -1,7 +1,7 @@
 use Rattle.std.proofs.Common.{sym, ap, ◌∙◌}
 use Rattle.raster.specs.Picture.{sizes}
 use Rattle.raster.specs.declared.size.Size.{Size}
-use Rattle.plan.specs.declared.frame.Frame.{Frame}
+use Rattle.raster.specs.declared.rectangle.Rectangle.{Rectangle}
 use Rattle.desk.proofs.Fits.{shut_pane, open_pane}
 use Rattle.desk.proofs.desk.Desk.pane_size.Goals as goal
 
@@ -15,5 +15,5 @@ pub returns : goal.returns
 returns g c =
     let d = c.args.self.now in
     ap (λ (z : Size). record { width = c.frame-frame.result.w; height = c.frame-frame.result.h; depth = z.depth }) c.size-screen.ensures
-    ∙ ap (λ (f : Frame). record { width = f.w; height = f.h; depth = (g.S.Bitmap.picture d.screen).depth }) c.frame-frame.ensures
+    ∙ ap (λ (f : Rectangle). record { width = f.w; height = f.h; depth = (g.S.Bitmap.picture d.screen).depth }) c.frame-frame.ensures
     ∙ sym (ap sizes (open_pane (g.S.Bitmap.picture d.screen) (g.T.Bitmap.picture d.store) d.book c.args.c (sym (c.if-not-open_on.ensures c.size-screen.ensures))))

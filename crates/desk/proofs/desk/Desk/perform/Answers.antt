@@ -24,36 +24,30 @@ returns-in_err-check_open g c =
       refused = refl;
     })
 
-pub returns-in-Err : goal.returns-in-Err
-returns-in-Err g c =
+pub returns-in_err-blit-clause-does : goal.returns-in_err-blit-clause-does
+returns-in_err-blit-clause-does g c k b same pre =
     let a = c.args in
     let d = a.self.now in
     let s = g.S.Bitmap.picture d.screen in
     let t = g.T.Bitmap.picture d.store in
-    record {
-      does = λ k b same pre.
-          rw c.carried.ensures
-          (drawing_refused s t d.book a.c c.in_ok-check_open.ensures k b same c.in-Err.f
-          (subst (λ (r : Result Blit Fault). Prepares (sizes (pane a.c (on_pictures s t d.book))) b r) c.in-Err.is pre));
-      rest = record { screen = g.met.S.Bitmap.same d.screen; store = g.met.T.Bitmap.same d.store };
-      refused = refl;
-    }
+    let p = err_from_is_err_and c.from_residual-in_err-blit.result c.from_residual-in_err-blit.ensures.1 in
+    let e = c.in_err-blit.ensures in
+    rw (p.1, p.2, e.2)
+    (drawing_refused s t d.book a.c c.in_ok-check_open.ensures k b same e.0
+    (subst (λ (r : Result Blit Fault). Prepares (sizes (pane a.c (on_pictures s t d.book))) b r) e.1 pre))
 
-pub returns-in-Ok : goal.returns-in-Ok
+pub returns-clause-does : goal.returns-clause-does
 unfolding on_pictures used_by
-returns-in-Ok g c =
+returns-clause-does g c k b same pre =
     let a = c.args in
     let d = a.self.now in
     let s = g.S.Bitmap.picture d.screen in
     let t = g.T.Bitmap.picture d.store in
     let ok = c.in_ok-check_open.ensures in
-    let blit = c.in-Ok.blit in
-    record {
-      does = λ k b same pre.
-          let p : Performs (sizes (pane a.c (on_pictures s t d.book))) b blit = subst (λ (r : Result Blit Fault). Prepares (sizes (pane a.c (on_pictures s t d.book))) b r) c.in-Ok.is pre in
-          drawing_does s t d.book a.c ok (g.S.Bitmap.picture c.paint.new.screen) (g.T.Bitmap.picture c.paint.new.store) k b same blit p
-          (c.paint.ensures.drawn (blit_within s t d.book a.c ok b blit p) (fitting s t d.book (drawing_fits s t d.book a.c ok)))
-          c.count.result c.count.ensures;
-      rest = record { screen = c.paint.ensures.screen; store = c.paint.ensures.store };
-      refused = tt;
-    }
+    let blit = c.in_ok-blit.blit in
+    let p : Performs (sizes (pane a.c (on_pictures s t d.book))) b blit =
+    subst (λ (r : Result Blit Fault). Prepares (sizes (pane a.c (on_pictures s t d.book))) b r) c.in_ok-blit.ensures pre in
+    let drawn = simp (c.layer.ensures.plan, c.layer.ensures.slots, c.layer.ensures.client) at c.paint.ensures.drawn in
+    drawing_does s t d.book a.c ok (g.S.Bitmap.picture c.paint.new.screen) (g.T.Bitmap.picture c.paint.new.store) k b same blit p
+    (drawn (blit_within s t d.book a.c ok b blit p) (fitting s t d.book (drawing_fits s t d.book a.c ok)))
+    c.count.result c.count.ensures

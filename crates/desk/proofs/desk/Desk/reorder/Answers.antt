@@ -1,6 +1,6 @@
 use Rattle.std.proofs.Common.{refl, subst}
 use Rattle.std.proofs.lemmas.Result.{err_from_is_err_and}
-use Rattle.plan.specs.declared.frame.Frame.{Frame}
+use Rattle.raster.specs.declared.rectangle.Rectangle.{Rectangle}
 use Rattle.desk.specs.Moves.{Rearranges}
 use Rattle.desk.proofs.Reordered.{order_shut, order_few, order_does}
 use Rattle.desk.proofs.desk.Desk.reorder.Goals as goal
@@ -46,7 +46,7 @@ returns g c =
       does = λ k r.
           order_does s t d.book a.c a.after k r c.in_ok-check_open.ensures (g.S.Bitmap.picture e.screen) (g.T.Bitmap.picture e.store) e.book slots
           (g.met.S.Bitmap.sound d.screen) way.0 way.1 c.rearrange.ensures.book
-          (subst (λ (z : Frame). Rearranges d.book.plan a.after slots z s t (g.S.Bitmap.picture e.screen) (g.T.Bitmap.picture e.store)) c.frame-area.ensures c.rearrange.ensures.pixels);
+          (subst (λ (z : Rectangle). Rearranges d.book.plan a.after slots z s t (g.S.Bitmap.picture e.screen) (g.T.Bitmap.picture e.store)) c.frame-area.ensures c.rearrange.ensures.pixels);
       rest = c.rearrange.ensures.rest;
       refused = tt;
     }

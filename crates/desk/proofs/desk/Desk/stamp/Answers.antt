@@ -1,7 +1,6 @@
-use Rattle.std.proofs.Common.{refl}
+use Rattle.std.proofs.Common.{refl, w16, SFits, rules}
 use Rattle.std.proofs.lemmas.Result.{err_from_is_err_and}
 use Rattle.std.proofs.lemmas.Int.{to_z-of_z}
-use Rattle.raster.specs.Blt.{transfer}
 use Rattle.paper.specs.Desk.{stamp_layer}
 use Rattle.desk.specs.Desks.{on_pictures, used_by}
 use Rattle.desk.proofs.Fits.{fitting}
@@ -18,7 +17,7 @@ returns-in_err-rule g c =
     let p = err_from_is_err_and c.from_residual.result c.from_residual.ensures.1 in
     rw (p.1, p.2)
     (record {
-      does = refused_does s t d.book (stamp_layer a.c (transfer a.rule a.sx a.sy a.dx a.dy a.w a.h) (g.B.Bitmap.picture a.source.now)) _
+      does = refused_does s t d.book (stamp_layer a.c a.transfer (g.B.Bitmap.picture a.source.now)) _
           (simp c.size-from.ensures at c.in_err-rule.ensures);
       rest = record { screen = g.met.S.Bitmap.same d.screen; store = g.met.T.Bitmap.same d.store };
       refused = refl;
@@ -32,17 +31,17 @@ returns g c =
     let s = g.S.Bitmap.picture d.screen in
     let t = g.T.Bitmap.picture d.store in
     let source = g.B.Bitmap.picture a.source.now in
-    let move = transfer a.rule a.sx a.sy a.dx a.dy a.w a.h in
+    let move = a.transfer in
     let ok = simp c.size-from.ensures at c.in_ok-rule.ensures.0 in
-    let fsx = c.ranges.sx in
-    let fsy = c.ranges.sy in
-    let fdx = c.ranges.dx in
-    let fdy = c.ranges.dy in
+    let fsx : SFits w16 move.sx = search rules in
+    let fsy : SFits w16 move.sy = search rules in
+    let fdx : SFits w16 move.dx = search rules in
+    let fdy : SFits w16 move.dy = search rules in
     let clipped = stamp_clipped s t d.book a.c move source ok c.size-from.result c.pane_size-size.result c.in_ok-rule.rule c.clip-columns.result c.clip-rows.result
     c.size-from.ensures c.pane_size-size.ensures c.in_ok-rule.ensures.1 (simp to_z-of_z at c.clip-columns.ensures) (simp to_z-of_z at c.clip-rows.ensures) in
     record {
       does = stamp_does s t d.book a.c move source ok (g.S.Bitmap.picture c.stamp.new.screen) (g.T.Bitmap.picture c.stamp.new.store)
-          (c.stamp.ensures.drawn move clipped (fitting s t d.book (stamp_fits s t d.book a.c move source ok))) c.stamp.result (c.stamp.ensures.count move clipped);
+          ((simp (c.layer-layer.ensures.plan, c.layer-layer.ensures.slots, c.layer-layer.ensures.client) at c.stamp.ensures.drawn) move clipped (fitting s t d.book (stamp_fits s t d.book a.c move source ok))) c.stamp.result ((simp (c.layer-layer.ensures.plan, c.layer-layer.ensures.slots, c.layer-layer.ensures.client) at c.stamp.ensures.count) move clipped);
       rest = record { screen = c.stamp.ensures.screen; store = c.stamp.ensures.store };
       refused = tt;
     }

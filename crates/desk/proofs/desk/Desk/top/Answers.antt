@@ -21,7 +21,7 @@ returns-then-is_err g c =
     let test : true ≡ not (inside (sizes s) a.x a.y) =
     asked c.size-screen.result (sizes s) a.x a.y true c.size-screen.ensures
     (c.if-is_err.ensures.value ∙ ap is_err (simp to_z-of_z at c.read_place.ensures) ∙ place_test c.size-screen.result a.x a.y (nat_abs a.x, nat_abs a.y)) in
-    ap Err c.because.ensures ∙ sym (top_off s (g.T.Bitmap.picture d.store) d.book a.x a.y (not-true (inside (sizes s) a.x a.y) (sym test)))
+    sym (top_off s (g.T.Bitmap.picture d.store) d.book a.x a.y (not-true (inside (sizes s) a.x a.y) (sym test)))
 
 pub returns-then-not-suits : goal.returns-then-not-suits
 returns-then-not-suits g c =

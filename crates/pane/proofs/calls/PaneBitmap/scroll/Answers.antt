@@ -1,15 +1,10 @@
 use Rattle.std.proofs.Common.{sym, refl, ap, ◌∙◌, subst}
 use Rattle.std.proofs.lemmas.Result.{err_from_is_err_and}
-use Rattle.std.proofs.lemmas.Int.{to_z-of_z}
 use Rattle.raster.specs.Blits.{Performs}
-use Rattle.raster.specs.Blt.{transfer}
 use Rattle.raster.specs.Calls.{scroll_by, bitmap_fault}
 use Rattle.raster.specs.declared.size.Size.{Size}
 use Rattle.raster.proofs.Called.{refused, blit_painted}
-use Rattle.paper.specs.Desk.{scroll_layer}
-use Rattle.paper.specs.Run.{Does}
 use Rattle.paper.proofs.Draws.{scrolls}
-use Rattle.desk.specs.Desks.{state_of}
 use Rattle.pane.specs.Panes.{picture_of}
 use Rattle.pane.specs.Joins.{pane_same}
 use Rattle.pane.proofs.Kept.{pane_drawn, pane_kept}
@@ -18,14 +13,9 @@ use Rattle.pane.proofs.calls.PaneBitmap.scroll.Goals as goal
 pub returns-in_err-blit : goal.returns-in_err-blit
 returns-in_err-blit g c =
     let a = c.args in
-    let f1 = c.ranges.sx in
-    let f2 = c.ranges.sy in
-    let f3 = c.ranges.dx in
-    let f4 = c.ranges.dy in
-    let call = scroll_by (transfer a.rule a.sx a.sy a.dx a.dy a.w a.h) in
+    let call = scroll_by a.transfer in
     let p = err_from_is_err_and c.from_residual.result c.from_residual.ensures.1 in
-    let r = refused (picture_of g.S.Bitmap g.T.Bitmap a.self.now) call _
-    (ap (λ (z : Size). bitmap_fault z call) (sym c.size.ensures) ∙ (simp to_z-of_z at c.in_err-blit.ensures)) in
+    let r = refused (picture_of g.S.Bitmap g.T.Bitmap a.self.now) call _ (ap (λ (z : Size). bitmap_fault z call) (sym c.size.ensures) ∙ c.in_err-blit.ensures) in
     rw (p.1, p.2)
     (record { answer = r.answer; after = r.after; rest = pane_same g.S.Bitmap g.T.Bitmap g.met.S.Bitmap.same g.met.T.Bitmap.same a.self.now; refused = refl })
 
@@ -35,18 +25,13 @@ returns g c =
     let p = a.self.now in
     let s = g.S.Bitmap in
     let t = g.T.Bitmap in
-    let f1 = c.ranges.sx in
-    let f2 = c.ranges.sy in
-    let f3 = c.ranges.dx in
-    let f4 = c.ranges.dy in
-    let call = scroll_by (transfer a.rule a.sx a.sy a.dx a.dy a.w a.h) in
+    let call = scroll_by a.transfer in
     let b = c.in_ok-blit.blit in
-    let d = blit_painted (picture_of s t p) call b (subst (λ (z : Size). Performs z call b) c.size.ensures (simp to_z-of_z at c.in_ok-blit.ensures)) in
+    let d = blit_painted (picture_of s t p) call b (subst (λ (z : Size). Performs z call b) c.size.ensures c.in_ok-blit.ensures) in
     let last = c.scroll-2.new.self in
-    let does : Does (state_of s t p.desk) (scroll_layer p.client (transfer a.rule a.sx a.sy a.dx a.dy a.w a.h)) c.scroll-2.result (state_of s t last) = simp to_z-of_z at c.scroll-2.ensures.does in
     record {
       answer = d.answer c.count.result c.count.ensures;
-      after = pane_drawn s t p last scrolls does;
-      rest = pane_kept s t p last scrolls does c.scroll-2.ensures.rest;
+      after = pane_drawn s t p last scrolls c.scroll-2.ensures.does;
+      rest = pane_kept s t p last scrolls c.scroll-2.ensures.does c.scroll-2.ensures.rest;
       refused = tt;
     }

@@ -1,7 +1,8 @@
-use Rattle.std.proofs.Common.{ℕ, nat_abs, refl, ◌∙◌}
+use Rattle.std.proofs.Common.{ℕ, nat_abs, refl, ◌∙◌, subst, w16, to_z, of_z}
 use Rattle.std.proofs.lemmas.Result.{err_from_is_err_and}
 use Rattle.std.proofs.lemmas.Int.{to_z-of_z}
 use Rattle.raster.specs.Calls.{write_at}
+use Rattle.raster.specs.declared.rectangle.Rectangle.{Rectangle}
 use Rattle.raster.proofs.Called.{place_refused, write_found}
 use Rattle.paper.specs.Desk.{fill_layer}
 use Rattle.paper.specs.Run.{Does}
@@ -36,7 +37,9 @@ returns g c =
     let fy = c.ranges.y in
     let ok = at_size (picture_of s t p) (write_at a.x a.y a.v) (nat_abs a.x, nat_abs a.y) c.size.ensures (simp to_z-of_z at c.in_ok-write_place.ensures) in
     let last = c.fill.new.self in
-    let does : Does (state_of s t p.desk) (fill_layer p.client 3 a.v a.x a.y 1 1) c.fill.result (state_of s t last) = simp to_z-of_z at c.fill.ensures.does in
+    let as_passed : Does (state_of s t p.desk) (fill_layer p.client 3 a.v (to_z w16 (of_z w16 a.x)) (to_z w16 (of_z w16 a.y)) 1 1) c.fill.result (state_of s t last) =
+    subst (λ (r : Rectangle). Does (state_of s t p.desk) (fill_layer p.client 3 a.v r.x r.y r.w r.h) c.fill.result (state_of s t last)) c.new.ensures c.fill.ensures.does in
+    let does : Does (state_of s t p.desk) (fill_layer p.client 3 a.v a.x a.y 1 1) c.fill.result (state_of s t last) = simp to_z-of_z at as_passed in
     record {
       answer = (write_found (picture_of s t p) a.x a.y a.v _ _ ok).answer;
       after = pane_drawn s t p last fills does ∙ write_fills (picture_of s t p) a.x a.y a.v _ _ ok;
