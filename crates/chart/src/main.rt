@@ -1,65 +1,60 @@
 //! The chart of the sixteen rules, on both kinds of bitmap.
 #![tactic(auto)]
 
-ghost use Rattle.std.specs.Prelude.{◌≡◌, ◌+◌, ◌%◌, if◌then◌else◌, nat_lt};
-
 use planes::Planes;
-use raster::Bitmap;
+use raster::{Bitmap, Transfer};
 use runrows::RunRows;
 use std::alloc::{AllocError, Global};
 use std::io;
 
 /// How wide the chart is, and how many values a pixel of depth 2 has.
-const WIDTH: u16 = 16;
+const WIDTH: u8 = 16;
 
-const VALUES: u16 = 4;
-
-/// A pixel, below 16, as a hexadecimal digit.
-fn digit(v: u8) -> char
-    ensures { result ≡ (if nat_lt (v % 16) 10 then v % 16 + 48 else v % 16 + 87) }
-{
-    let low = v % 16;
-    if low < 10 {
-        (low + b'0') as char
-    } else {
-        (low - 10 + b'a') as char
-    }
-}
+const VALUES: u8 = 4;
 
 /// Row 0 has each value four times in turn, row 1 four times in a row.
 fn draw<B: Bitmap>(b: &mut B) {
     for x in 0..WIDTH {
-        let _ = b.write(x as i16, 0, (x % VALUES) as u8);
-        let _ = b.write(x as i16, 1, (x / VALUES) as u8);
+        let _ = b.write(i16::from(x), 0, x % VALUES);
+        let _ = b.write(i16::from(x), 1, x / VALUES);
     }
 }
 
 /// Row 1 after row 0 is scrolled onto it by a rule, a digit for each pixel.
 fn chart_row<B: Bitmap>(heap: Global, b: &mut B, rule: u8) -> Result<String, AllocError> {
     draw(b);
-    let _ = b.scroll(rule, 0, 0, 0, 1, WIDTH, 1);
+    let _ = b.scroll(Transfer {
+        rule,
+        sx: 0,
+        sy: 0,
+        dx: 0,
+        dy: 1,
+        w: u16::from(WIDTH),
+        h: 1,
+    });
     let mut row = String::new(heap);
-    for x in 0..WIDTH {
-        if let Ok(v) = b.read(x as i16, 1) {
-            row.push(digit(v))?;
-        }
+    for v in (0..=i16::MAX).map_while(|x| b.read(x, 1).ok()) {
+        write!(row, "{v:x}")?;
     }
     Ok(row)
 }
 
-fn main(rt: HostRuntime) -> io::Result<()> {
-    let heap = rt.alloc();
+/// The chart on one kind of bitmap, drawn anew for each rule.
+fn print_chart<B: Bitmap>(rt: &HostRuntime, kind: &str, b: &mut B) -> io::Result<()> {
     for rule in 0..16 {
-        let mut b = Planes::new(vec![in heap; 0; 4]?, WIDTH, 2, 2);
-        let row = chart_row(heap, &mut b, rule)?;
-        println!(rt; "planes rule {rule}: {row}")?;
-    }
-    for rule in 0..16 {
-        let mut b = RunRows::new(vec![in heap; 0; 32]?, WIDTH, 2, 2);
-        let row = chart_row(heap, &mut b, rule)?;
-        println!(rt; "run rows rule {rule}: {row}")?;
+        let row = chart_row(rt.alloc(), b, rule)?;
+        println!(rt; "{kind} rule {rule}: {row}")?;
     }
     Ok(())
+}
+
+fn main(rt: HostRuntime) -> io::Result<()> {
+    let heap = rt.alloc();
+    let width = u16::from(WIDTH);
+    let mut planes = Planes::new(vec![in heap; 0; 4]?, width, 2, 2);
+    print_chart(&rt, "planes", &mut planes)?;
+    let mut rows = RunRows::new(vec![in heap; 0; 32]?, width, 2, 2);
+    print_chart(&rt, "run rows", &mut rows)
 }
 
 #[cfg(test)]

@@ -1,12 +1,14 @@
 -- The worked examples, by computation.
-use Rattle.std.proofs.Common.{◌≡◌, ℕ, zero, suc, ◌+◌, ◌-◌, ◌*◌, ◌/◌, ◌%◌, ◌<◌, ◌≤◌, List, [], ◌∷◌, get_or, refl, ap₂, arith}
+use Rattle.std.proofs.Common.{◌≡◌, ℕ, suc, ◌+◌, ◌-◌, ◌*◌, ◌%◌, ◌<◌, get_or, ltb, eqb, not, refl, ap₂, arith}
+use Rattle.std.proofs.lemmas.Bool.{ltb-true, eqb-false, not-true}
+use Rattle.std.proofs.lemmas.List.{get_or_past}
 use Rattle.raster.specs.Rules.{bit, result, combined}
 use Rattle.raster.specs.Picture.{painted}
 use Rattle.raster.specs.Blt.{concerned, count, blt}
 use Rattle.raster.specs.Calls.{bitmap_fault, bitmap_answer, bitmap_after}
-use Rattle.raster.proofs.Digits.{bit_below, of_two_bits}
+use Rattle.raster.proofs.Digits.{at_below, bit_below, of_two_bits}
 use Rattle.planes.specs.Layout.{word_of}
-use Rattle.runrows.specs.Runs.{Runs, Settled}
+use Rattle.runrows.specs.Runs.{run_len, Settled}
 use Rattle.paper.proofs.Examples.{desk_examples}
 use Rattle.worked.specs.Examples.{WorkedExamples, runs}
 
@@ -19,31 +21,18 @@ unfolding combined
 complement d =
     ap₂ (λ a b. 0 + a * 1 + b * 2) (inverted 1 (bit d 0) (omega arith) (bit_below d 0)) (inverted 0 (bit d 1) (omega arith) (bit_below d 1))
 
--- the row of runs, entry by entry
-each : (P : ℕ → ℕ → Type 0) → P 0 34 → P 1 16 → P 2 17 → (k : ℕ) → k < 3 → P k (get_or runs k 0)
-each P a b c zero l = a
-each P a b c (suc zero) l = b
-each P a b c (suc (suc zero)) l = c
-each P a b c (suc (suc (suc k))) l = absurd (omega arith)
-
-past : (k : ℕ) → 3 ≤ k → get_or runs k 0 ≡ 0
-past zero l = absurd (omega arith)
-past (suc zero) l = absurd (omega arith)
-past (suc (suc zero)) l = absurd (omega arith)
-past (suc (suc (suc zero))) l = refl
-past (suc (suc (suc (suc k)))) l = refl
-
+-- the row of runs: each run by one test of all three
 settled : Settled 2 runs 4
 settled = (
   3,
   record {
     within = omega arith;
-    some = λ k l. each (λ _ e. 0 < e / 16) (omega arith) (omega arith) (omega arith) k l;
-    small = λ k l. each (λ _ e. e % 16 < 4) (omega arith) (omega arith) (omega arith) k l;
-    differ = λ k l q. each (λ k e. suc k < 3 → e % 16 ≡ get_or runs (suc k) 0 % 16 → ⊥) (λ _ h. omega arith) (λ _ h. omega arith) (λ h _. omega arith) k (omega arith) l q;
+    some = λ k l. ltb-true _ _ (at_below (λ k. ltb 0 (run_len runs k)) 3 refl k l);
+    small = λ k l. ltb-true _ _ (at_below (λ k. ltb (get_or runs k 0 % 16) 4) 3 refl k l);
+    differ = λ k l. eqb-false _ _ (not-true _ (at_below (λ k. not (eqb (get_or runs k 0 % 16) (get_or runs (suc k) 0 % 16))) 2 refl k (omega arith)));
     sum = refl;
   },
-  past,
+  λ k l. grind (arith, get_or_past),
 )
 
 pub worked_examples_lem : WorkedExamples
