@@ -1,6 +1,7 @@
 -- When a call of a bitmap is refused, and what it answers and leaves then and otherwise.
 use Rattle.std.specs.Option.{ok_or, option_zip}
-use Rattle.std.proofs.Common.{◌≡◌, Bool, not, ◌&&◌, [], ◌∷◌, if◌then◌else◌, ℕ, ◌^◌, ◌<◌, true, false, ltb, leb, ℤ, pos, nat_abs, Some, None, Ok, Err, Option, Result, sym, refl, ◌∙◌, ⊎_elim, arith}
+use Rattle.std.proofs.Common.{◌≡◌, Bool, not, ◌&&◌, [], ◌∷◌, if◌then◌else◌, ℕ, ◌^◌, ◌<◌, true, false, ltb, leb, ℤ, pos, nat_abs, Some, None, Ok, Err, Option, Result, sym, refl, ◌∙◌, ⊎_elim, arith, rules}
+use Rattle.std.proofs.lemmas.Option.{none-some}
 use Rattle.std.proofs.lemmas.Int.{ints}
 use Rattle.std.proofs.lemmas.Bool.{cases_Bool}
 use Rattle.std.proofs.lemmas.Bool.Decides.{nat_tests}
@@ -58,10 +59,7 @@ module _ (s : Size) (t : Transfer) where
 placed_by : (across down : Bool) (x y : ℕ) (f : Fault)
     → ok_or (option_zip (if across then Some x else None) (if down then Some y else None)) f
     ≡ unless (first_fault (refuse_if (not (across && down)) f ∷ [])) (x, y)
-placed_by true true x y f = refl
-placed_by true false x y f = refl
-placed_by false true x y f = refl
-placed_by false false x y f = refl
+placed_by across down x y f = search rules
 
 pub placed : (s : Size) (x y : ℤ)
     → ok_or (option_zip (if holds (pos 0) s.width x then Some (nat_abs x) else None) (if holds (pos 0) s.height y then Some (nat_abs y) else None)) (fault OutsideBitmap x y)
@@ -98,21 +96,22 @@ module _ (p : Picture) (call : BitmapCall) where
 
 -- from what a check of the place answers
 
-pub some_none : {F : Type 0} {f : F} → ◌≡◌ {A = Option F} (Some f) None → ⊥
-some_none h = let z : ◌≡◌ {A = ℕ} 0 1 = cc in omega arith
-
 pub unless_err : {A F : Type 0} (o : Option F) (a : A) (f : F) → ◌≡◌ {A = Result A F} (Err f) (unless o a) → o ≡ Some f
 unless_err (Some g) a f e = cc
-unless_err None a f e = absurd (let z : ◌≡◌ {A = ℕ} 0 1 = cc in omega arith)
+unless_err None a f e = cc
 
 pub unless_ok : {A F : Type 0} (o : Option F) (a b : A) → ◌≡◌ {A = Result A F} (Ok b) (unless o a) → (o ≡ None) × (b ≡ a)
-unless_ok (Some g) a b e = absurd (let z : ◌≡◌ {A = ℕ} 0 1 = cc in omega arith)
+unless_ok (Some g) a b e = (cc, cc)
 unless_ok None a b e = (refl, cc)
 
 module _ (s : Size) (x y : ℤ) where
   pub read_within : bitmap_fault s (read_at x y) ≡ None → inside s x y ≡ true
   unfolding bitmap_fault
-  read_within e = ⊎_elim (λ (t : inside s x y ≡ true). t) (λ (t : inside s x y ≡ false). absurd (some_none (sym (read_outside s x y t) ∙ e))) (cases_Bool (inside s x y))
+  read_within e = ⊎_elim (λ (t : inside s x y ≡ true). t) (λ (t : inside s x y ≡ false). absurd (none-some _ (sym e ∙ read_outside s x y t))) (cases_Bool (inside s x y))
 
   pub place_within : inside s x y ≡ true → (nat_abs x < s.width) × (nat_abs y < s.height)
   place_within e = (grind (arith, ints, nat_tests), grind (arith, ints, nat_tests))
+
+  -- such a place is one of natural numbers
+  pub inside_place : inside s x y ≡ true → (x ≡ pos (nat_abs x)) × (y ≡ pos (nat_abs y))
+  inside_place e = (grind (arith, ints, nat_tests), grind (arith, ints, nat_tests))

@@ -1,13 +1,17 @@
 -- What a kind of bitmap has to show of each call, from what the checks of raster answer.
 use Rattle.std.proofs.Common.{◌≡◌, ℕ, ◌+◌, ◌*◌, ◌^◌, ◌<◌, Bool, true, false, ◌&&◌, eqb, ltb, leb, ℤ, nat_abs, Some, Ok, Err, Result, sym, refl, ap, ◌∙◌, ⊎_elim, arith}
+use Rattle.std.proofs.Math.Bool.{and-true}
+use Rattle.std.proofs.lemmas.Option.{none-some}
+use Rattle.std.specs.Result.{IsErrAnd}
+use Rattle.std.proofs.lemmas.Result.{err_from_is_err_and}
 use Rattle.std.proofs.lemmas.Bool.{cases_Bool, leb-false}
 use Rattle.std.proofs.lemmas.Bool.Decides.{nat_tests}
 use Rattle.raster.specs.Picture.{Picture, sizes, with_pixel}
-use Rattle.raster.specs.Calls.{BitmapCall, read_at, write_at, bitmap_fault, bitmap_answer, bitmap_after, row_concerned, any_below, unless}
+use Rattle.raster.specs.Calls.{BitmapCall, read_at, write_at, bitmap_fault, bitmap_answer, bitmap_after, row_concerned, any_below, unless, Called}
 use Rattle.raster.specs.Blits.{performed, spans, Performs}
 use Rattle.raster.specs.declared.fault.Fault.{Fault}
 use Rattle.raster.specs.declared.blit.Blit.{Blit}
-use Rattle.raster.proofs.Accepts.{some_none, unless_err, unless_ok, read_within, place_within, write_too_large, write_as_read, answer_refused, after_refused, rows_refused, answer_accepted, after_accepted, rows_accepted}
+use Rattle.raster.proofs.Accepts.{unless_err, unless_ok, read_within, place_within, write_too_large, write_as_read, answer_refused, after_refused, rows_refused, answer_accepted, after_accepted, rows_accepted}
 use Rattle.raster.proofs.Counts.{any_with, any_between, any_same}
 
 -- a refused call
@@ -21,6 +25,16 @@ refused p call f e = record { answer = sym (answer_refused p call f e); after = 
 
 pub place_refused : {A : Type 0} (p : Picture) (call : BitmapCall) (f : Fault) (a : A) → ◌≡◌ {A = Result A Fault} (Err f) (unless (bitmap_fault (sizes p) call) a) → Refused p call f
 place_refused p call f a e = refused p call f (unless_err (bitmap_fault (sizes p) call) a f e)
+
+-- an answer that hands on the fault of a refused call
+pub hands_on : {p : Picture} {call : BitmapCall} (r : Result ℕ Fault) (f : Fault) → IsErrAnd r (λ e. e ≡ f) → Refused p call f → r ≡ bitmap_answer p call
+hands_on r f h q = let e = err_from_is_err_and r h in rw (e.1, e.2) q.answer
+
+-- and leaves the very same value
+pub call_refused : {B : Type 0} (picture : B → Picture) (keeps : B → B → Type 0) (b : B) → keeps b b → (call : BitmapCall) (r : Result ℕ Fault) (f : Fault) → IsErrAnd r (λ e. e ≡ f)
+    → Refused (picture b) call f → Called picture keeps b call r b
+call_refused picture keeps b same call (Ok n) f h q = absurd h
+call_refused picture keeps b same call (Err e) f h q = record { answer = hands_on (Err e) f h q; after = q.after; rest = same; refused = refl }
 
 -- a read whose pixel is (a, b)
 pub record ReadFound (p : Picture) (x y : ℤ) (a b : ℕ) : Type 0 where
@@ -51,14 +65,10 @@ pub record WriteFound (p : Picture) (x y : ℤ) (v a b : ℕ) : Type 0 where
 
 one_row : (x w : ℕ) (t : Bool) → x < w → t ≡ any_below (λ a. eqb a x && t) w
 one_row x w t l =
-    sym (any_same (λ a. eqb a x && t) (λ a. (leb x a && ltb a (x + 1)) && t) (λ a. ap (λ s. s && t) (single a)) w ∙ any_with t _ w ∙ ap (λ s. t && s) (any_between x 1 w (omega arith)) ∙ and_true t)
+    sym (any_same (λ a. eqb a x && t) (λ a. (leb x a && ltb a (x + 1)) && t) (λ a. ap (λ s. s && t) (single a)) w ∙ any_with t _ w ∙ ap (λ s. t && s) (any_between x 1 w (omega arith)) ∙ and-true t)
   where
     single : (a : ℕ) → eqb a x ≡ (leb x a && ltb a (x + 1))
     single a = grind (arith, nat_tests)
-
-    and_true : (b : Bool) → (b && true) ≡ b
-    and_true true = refl
-    and_true false = refl
 
 pub write_found : (p : Picture) (x y : ℤ) (v a b : ℕ) → ◌≡◌ {A = Result (ℕ × ℕ) Fault} (Ok (a, b)) (unless (bitmap_fault (sizes p) (write_at x y v)) (nat_abs x, nat_abs y)) → WriteFound p x y v a b
 write_found p x y v a b e =
@@ -66,7 +76,7 @@ write_found p x y v a b e =
     let ea : a ≡ nat_abs x = ap (λ (z : ℕ × ℕ). z.0) q.1 in
     let eb : b ≡ nat_abs y = ap (λ (z : ℕ × ℕ). z.1) q.1 in
     let fits : leb (2 ^ p.depth) v ≡ false =
-    ⊎_elim (λ (t : leb (2 ^ p.depth) v ≡ true). absurd (some_none (sym (write_too_large (sizes p) x y v t) ∙ q.0))) (λ (t : leb (2 ^ p.depth) v ≡ false). t) (cases_Bool (leb (2 ^ p.depth) v)) in
+    ⊎_elim (λ (t : leb (2 ^ p.depth) v ≡ true). absurd (none-some _ (sym q.0 ∙ write_too_large (sizes p) x y v t))) (λ (t : leb (2 ^ p.depth) v ≡ false). t) (cases_Bool (leb (2 ^ p.depth) v)) in
     let w = place_within (sizes p) x y (read_within (sizes p) x y (sym (write_as_read (sizes p) x y v fits) ∙ q.0)) in
     record {
       across = omega (arith, w);

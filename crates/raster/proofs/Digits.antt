@@ -2,18 +2,17 @@
 use Rattle.std.proofs.Common.{◌≡◌, ℕ, zero, suc, ◌+◌, ◌-◌, ◌*◌, ◌/◌, ◌%◌, ◌^◌, ◌<◌, ◌≤◌, Bool, true, ◌&&◌, eqb, List, [], get_or, sym, refl, ap, ◌∙◌, ⊎_elim, mod-eq_of_lt, mul_assoc, add_comm, pow-suc, add-one, arith, pow_mono}
 use native.Mathlib.Nat.{add-mul-div_right, add-mul-mod_self_right}
 use Rattle.std.proofs.lemmas.Nat.{mod-pow-add, pow_pos, pow-add, mod_below, mul-le, shr_high, shl_whole}
-use Rattle.std.proofs.lemmas.Bool.{and_parts, eqb-true, cases_lt}
+use Rattle.std.proofs.lemmas.Bool.{eqb-true, cases_lt, agree_below, agree_below_at}
+pub use Rattle.std.proofs.lemmas.Nat.Bits.{bit_at-lt as bit_below}
+use Rattle.std.proofs.lemmas.Nat.Bits.{bit_at_cat_low, bit_at-lt}
 use Rattle.raster.specs.Rules.{total, bit, result, combined}
 
+-- a test passes at each number below n
 abbrev pub all_below : (ℕ → Bool) → ℕ → Bool
-all_below f zero = true
-all_below f (suc n) = f n && all_below f n
+all_below f n = agree_below f (λ _. true) n
 
 pub at_below : (f : ℕ → Bool) (n : ℕ) → all_below f n ≡ true → (k : ℕ) → k < n → f k ≡ true
-at_below f zero t k h = absurd (omega arith)
-at_below f (suc n) t k h =
-    let p = and_parts (f n) (all_below f n) t in
-    ⊎_elim (λ (l : k < n). at_below f n p.1 k l) (λ (l : n ≤ k). let e : k ≡ n = omega arith in rw e p.0) (cases_lt k n)
+at_below f n t k h = agree_below_at f (λ _. true) n k t h
 
 -- a table of sixteen rows of four, by its one test
 pub table_rule : (rows : List (List ℕ)) →
@@ -29,29 +28,17 @@ pub total_alike : (f g : ℕ → ℕ) (n : ℕ) → ((k : ℕ) → k < n → f k
 total_alike f g zero e = refl
 total_alike f g (suc n) e = rw (total_alike f g n (λ k l. e k (omega arith)), e n (omega arith)) refl
 
-pub bit_below : (v j : ℕ) → bit v j < 2
-bit_below v j = mod_below (v / 2 ^ j) 2 (omega arith)
-
 -- n bits make a number below 2 ^ n
 pub total_below : (f : ℕ → ℕ) → ((j : ℕ) → f j < 2) → (n : ℕ) → total (λ j. f j * 2 ^ j) n < 2 ^ n
 total_below f h zero = omega arith
 total_below f h (suc n) =
     omega (arith, total_below f h n, h n, mul-le (f n) (2 ^ n) 1 (2 ^ n) (omega (arith, h n)) (omega arith), pow-suc 2 n)
 
--- adding a higher power leaves a bit
-pub bit_under : (a c n k : ℕ) → k < n → bit (a + c * 2 ^ n) k ≡ bit a k
-bit_under a c n k l =
-    let m : ℕ = n - k - 1 in
-    let e : n ≡ suc m + k = omega arith in
-    let p : 2 ^ n ≡ 2 ^ m * 2 * 2 ^ k = ap (λ i. 2 ^ i) e ∙ pow-add 2 (suc m) k ∙ ap (λ v. v * 2 ^ k) (pow-suc 2 m) in
-    let q : a + c * 2 ^ n ≡ a + (c * 2 ^ m * 2) * 2 ^ k = ap (λ v. a + v) (ap (λ v. c * v) p ∙ simp mul_assoc) in
-    ap (λ v. bit v k) q ∙ ap (λ v. v % 2) (add-mul-div_right a (c * 2 ^ m * 2) (pow_pos k)) ∙ add-mul-mod_self_right (a / 2 ^ k) (c * 2 ^ m) 2
-
 -- the bits of a number that bits make
 pub total_bit : (f : ℕ → ℕ) → ((j : ℕ) → f j < 2) → (n k : ℕ) → k < n → bit (total (λ j. f j * 2 ^ j) n) k ≡ f k
 total_bit f h zero k l = absurd (omega arith)
 total_bit f h (suc n) k l =
-    ⊎_elim (λ (m : k < n). bit_under (total (λ j. f j * 2 ^ j) n) (f n) n k m ∙ total_bit f h n k m)
+    ⊎_elim (λ (m : k < n). ap (λ v. bit v k) (add_comm (total (λ j. f j * 2 ^ j) n) (f n * 2 ^ n)) ∙ bit_at_cat_low (f n) n (total (λ j. f j * 2 ^ j) n) k m ∙ total_bit f h n k m)
     (λ (m : n ≤ k).
     let e : k ≡ n = omega arith in
     rw e (ap (λ v. v % 2) (ap (λ v. v / 2 ^ n) (add_comm (total (λ j. f j * 2 ^ j) n) (f n * 2 ^ n)) ∙ shr_high (f n) n (total (λ j. f j * 2 ^ j) n) (total_below f h n))
@@ -86,8 +73,8 @@ of_two_bits rule pick t s d ls ld =
 
 pub combined_below : (depth rule s d : ℕ) → combined depth rule s d < 2 ^ depth
 unfolding combined
-combined_below depth rule s d = total_below (λ j. result rule (bit s j) (bit d j)) (λ j. bit_below rule _) depth
+combined_below depth rule s d = total_below (λ j. result rule (bit s j) (bit d j)) (λ j. bit_at-lt rule _) depth
 
 pub combined_bit : (depth rule s d j : ℕ) → j < depth → bit (combined depth rule s d) j ≡ result rule (bit s j) (bit d j)
 unfolding combined
-combined_bit depth rule s d j l = total_bit (λ j. result rule (bit s j) (bit d j)) (λ j. bit_below rule _) depth j l
+combined_bit depth rule s d j l = total_bit (λ j. result rule (bit s j) (bit d j)) (λ j. bit_at-lt rule _) depth j l

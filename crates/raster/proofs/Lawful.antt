@@ -13,7 +13,6 @@ use Rattle.raster.specs.declared.fault.Fault.{Fault}
 use Rattle.raster.specs.declared.size.Size.{Size}
 use Rattle.raster.proofs.Accepts.{place_within, answer_refused, after_refused}
 use Rattle.raster.proofs.Called.{write_found}
-use Rattle.raster.proofs.Counts.{total_same}
 use Rattle.raster.proofs.Digits.{at_below, of_two_bits, total_alike, bit_below, bits_all, combined_below, combined_bit}
 use Rattle.raster.proofs.Paints.{painted_same, painted_at, painted_sizes}
 
@@ -57,7 +56,7 @@ module _ (p s : Picture) (rule v : ℕ) (x y sx sy : ℤ) (w h : ℕ) (has : Has
   unfolding blt count
   fill_from_any = (
     painted_same p _ _ _ _ same_concerned (λ a b t. ap (λ n. combined p.depth rule n (p.at a b)) (source_there a b (in_part a b t)).1),
-    total_same _ _ (λ b. total_same _ _ (λ a. ap (λ t. cond t 1 0) (same_concerned a b)) p.width) p.height,
+    total_alike _ _ p.height (λ b _. total_alike _ _ p.width (λ a _. ap (λ t. cond t 1 0) (same_concerned a b))),
   )
 
 -- what calls leave

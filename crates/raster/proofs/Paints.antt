@@ -1,6 +1,7 @@
 -- Painted pictures: when two are equal, and one more turn of a painting.
 use Rattle.std.proofs.Common.{◌≡◌, ℕ, ◌+◌, ◌-◌, ◌<◌, Bool, true, false, cond, ◌&&◌, ◌||◌, eqb, ltb, sym, refl, ap, ◌∙◌, subst, arith}
 use Rattle.std.proofs.lemmas.Bool.Decides.{nat_tests}
+use Rattle.std.proofs.Math.Bool.{and-or_distrib_left, and-or_distrib_right}
 use Rattle.std.proofs.lemmas.Bool.{and_parts, and_left, and_right, eqb-true, cond-false}
 use Rattle.raster.specs.Rules.{combined}
 use Rattle.raster.specs.Picture.{Picture, sizes, painted, with_pixel}
@@ -77,137 +78,176 @@ opposite_turn s k = omega arith
 pub turn_below : (s : Span) (i : ℕ) → i < s.len → turn s i < s.len
 turn_below s i h = grind (arith, nat_tests)
 
-inked_kept : (ink : Ink) (p : Picture) (t : ℕ → ℕ → Bool) (v : ℕ → ℕ → ℕ) (x y : ℕ) → t x y ≡ false
-    → inked ink (painted p t v) x y ≡ inked ink p x y
+-- ── A painting turn by turn, for any source of pixels ──
+
+-- The source pixel of each place, by the picture that is painted; it stays while other places are painted.
+abbrev pub Pixel : Type 0
+Pixel = Picture → (x y : ℕ) → ℕ
+
+abbrev pub Kept : Pixel → Type 0
+Kept source = (p : Picture) (t : ℕ → ℕ → Bool) (v : ℕ → ℕ → ℕ) (x y : ℕ) → t x y ≡ false → source (painted p t v) x y ≡ source p x y
+
+-- the pixel (x, y) combined with the source pixel opposite, in the source row sy
+abbrev pub blended : (rule : ℕ) (source : Pixel) (columns : Span) → Picture → (sy x y : ℕ) → ℕ
+blended rule source columns p sy x y = combined p.depth rule (source p (opposite columns x) sy) (p.at x y)
+
+-- all columns so combined in row y, and in all rows
+abbrev pub row_whole : (rule : ℕ) (source : Pixel) (columns : Span) (y sy : ℕ) → Picture → Picture
+row_whole rule source columns y sy p = painted p (λ x z. spans columns x && eqb z y) (λ x z. blended rule source columns p sy x z)
+
+abbrev pub rows_whole : (rule : ℕ) (source : Pixel) (columns rows : Span) → Picture → Picture
+rows_whole rule source columns rows p = painted p (λ x z. spans columns x && spans rows z) (λ x z. blended rule source columns p (opposite rows z) x z)
+
+-- the picture after i turns of a row, and after j turns of rows
+unfoldable pub row_turned : (rule : ℕ) (source : Pixel) (columns : Span) (y sy i : ℕ) → Picture → Picture
+row_turned rule source columns y sy i p = painted p (λ x z. so_far columns i x && eqb z y) (λ x z. blended rule source columns p sy x z)
+
+unfoldable pub rows_turned : (rule : ℕ) (source : Pixel) (columns rows : Span) (j : ℕ) → Picture → Picture
+rows_turned rule source columns rows j p = painted p (λ x z. spans columns x && so_far rows j z) (λ x z. blended rule source columns p (opposite rows z) x z)
+
+module _ (rule : ℕ) (source : Pixel) (kept : Kept source) (cols : Span) (y sy : ℕ) (p : Picture) where
+  pub row_turned_none : p ≡ row_turned rule source cols y sy 0 p
+  unfolding row_turned
+  row_turned_none = sym (painted_none p _ _ (λ x z. and_left (so_far cols 0 x) (eqb z y) (so_far_none cols x)))
+
+  pub row_turned_all : row_turned rule source cols y sy cols.len p ≡ row_whole rule source cols y sy p
+  unfolding row_turned
+  row_turned_all = painted_same p _ _ _ _ (λ x z. ap (λ t. t && eqb z y) (so_far_all cols x)) (λ x z t. refl)
+
+  row_value : (i s x z : ℕ) → i < cols.len → s ≡ source (row_turned rule source cols y sy i p) (cols.source + turn cols i) sy
+      → x ≡ cols.first + turn cols i → z ≡ y
+      → combined (row_turned rule source cols y sy i p).depth rule s ((row_turned rule source cols y sy i p).at (cols.first + turn cols i) y)
+      ≡ blended rule source cols p sy x z
+  unfolding row_turned
+  row_value i s x z h e ex ez =
+      let k : ℕ = turn cols i in
+      let t : ℕ → ℕ → Bool = λ a c. so_far cols i a && eqb c y in
+      let v : ℕ → ℕ → ℕ = λ a c. blended rule source cols p sy a c in
+      let e1 : s ≡ source p (opposite cols x) sy =
+      e ∙ kept p t v (cols.source + k) sy (and_left _ _ (not_read cols i h)) ∙ ap (λ n. source p n sy) (sym (ap (opposite cols) ex ∙ opposite_turn cols k)) in
+      let e2 : (painted p t v).at (cols.first + k) y ≡ p.at x z =
+      painted_at p t v (cols.first + k) y ∙ cond-false _ _ _ (and_left _ _ (not_painted cols i h)) ∙ ap (λ n. p.at n y) (sym ex) ∙ ap (p.at x) (sym ez) in
+      ap (λ (n : Size). combined n.depth rule s ((painted p t v).at (cols.first + k) y)) (painted_sizes p t v)
+      ∙ ap (λ n. combined p.depth rule n ((painted p t v).at (cols.first + k) y)) e1
+      ∙ ap (combined p.depth rule (source p (opposite cols x) sy)) e2
+
+  row_turn : (i s : ℕ) → i < cols.len → s ≡ source (row_turned rule source cols y sy i p) (cols.source + turn cols i) sy
+      → with_pixel (row_turned rule source cols y sy i p) (cols.first + turn cols i) y
+      (combined (row_turned rule source cols y sy i p).depth rule s ((row_turned rule source cols y sy i p).at (cols.first + turn cols i) y))
+      ≡ row_turned rule source cols y sy (i + 1) p
+  unfolding row_turned
+  row_turn i s h e =
+      let at : ℕ = cols.first + turn cols i in
+      painted_more p (λ a c. so_far cols i a && eqb c y) (λ a c. eqb a at && eqb c y) (λ a c. so_far cols (i + 1) a && eqb c y) _ _
+      (λ a c. ap (λ t. t && eqb c y) (so_far_more cols i a h) ∙ and-or_distrib_right (eqb a at) (so_far cols i a) (eqb c y))
+      (λ a c t.
+      let q = and_parts (eqb a at) (eqb c y) t in
+      row_value i s a c h e (eqb-true a _ q.0) (eqb-true c y q.1))
+
+  -- one more turn, from any picture q that is the row so far
+  pub row_turned_more : (q q' : Picture) (i k s : ℕ) → i < cols.len → k ≡ turn cols i → q ≡ row_turned rule source cols y sy i p
+      → s ≡ source q (cols.source + k) sy
+      → q' ≡ with_pixel q (cols.first + k) y (combined q.depth rule s (q.at (cols.first + k) y))
+      → q' ≡ row_turned rule source cols y sy (i + 1) p
+  row_turned_more q q' i k s h ek e es e' =
+      e' ∙ subst (λ (r : Picture). s ≡ source r (cols.source + k) sy
+      → with_pixel r (cols.first + k) y (combined r.depth rule s (r.at (cols.first + k) y)) ≡ row_turned rule source cols y sy (i + 1) p) (sym e)
+      (subst (λ (n : ℕ). s ≡ source (row_turned rule source cols y sy i p) (cols.source + n) sy
+      → with_pixel (row_turned rule source cols y sy i p) (cols.first + n) y
+      (combined (row_turned rule source cols y sy i p).depth rule s ((row_turned rule source cols y sy i p).at (cols.first + n) y))
+      ≡ row_turned rule source cols y sy (i + 1) p) (sym ek) (row_turn i s h)) es
+
+module _ (rule : ℕ) (source : Pixel) (kept : Kept source) (cols rows : Span) (p : Picture) where
+  pub rows_turned_none : p ≡ rows_turned rule source cols rows 0 p
+  unfolding rows_turned
+  rows_turned_none = sym (painted_none p _ _ (λ x z. and_right (spans cols x) (so_far rows 0 z) (so_far_none rows z)))
+
+  pub rows_turned_all : rows_turned rule source cols rows rows.len p ≡ rows_whole rule source cols rows p
+  unfolding rows_turned
+  rows_turned_all = painted_same p _ _ _ _ (λ x z. ap (λ t. spans cols x && t) (so_far_all rows z)) (λ x z t. refl)
+
+  rows_value : (j x z : ℕ) → j < rows.len → z ≡ rows.first + turn rows j
+      → blended rule source cols (rows_turned rule source cols rows j p) (rows.source + turn rows j) x z ≡ blended rule source cols p (opposite rows z) x z
+  unfolding rows_turned
+  rows_value j x z h ez =
+      let k : ℕ = turn rows j in
+      let t : ℕ → ℕ → Bool = λ a c. spans cols a && so_far rows j c in
+      let v : ℕ → ℕ → ℕ = λ a c. blended rule source cols p (opposite rows c) a c in
+      let from : ℕ = opposite cols x in
+      let e1 : source (painted p t v) from (rows.source + k) ≡ source p from (opposite rows z) =
+      kept p t v from (rows.source + k) (and_right _ _ (not_read rows j h)) ∙ ap (λ n. source p from n) (sym (ap (opposite rows) ez ∙ opposite_turn rows k)) in
+      let e2 : (painted p t v).at x z ≡ p.at x z =
+      painted_at p t v x z ∙ cond-false _ _ _ (and_right _ _ (ap (so_far rows j) ez ∙ not_painted rows j h)) in
+      ap (λ (n : Size). combined n.depth rule (source (painted p t v) from (rows.source + k)) ((painted p t v).at x z)) (painted_sizes p t v)
+      ∙ ap (λ n. combined p.depth rule n ((painted p t v).at x z)) e1
+      ∙ ap (combined p.depth rule (source p from (opposite rows z))) e2
+
+  rows_turn : (j : ℕ) → j < rows.len
+      → row_whole rule source cols (rows.first + turn rows j) (rows.source + turn rows j) (rows_turned rule source cols rows j p) ≡ rows_turned rule source cols rows (j + 1) p
+  unfolding rows_turned
+  rows_turn j h =
+      let at : ℕ = rows.first + turn rows j in
+      painted_more p (λ x z. spans cols x && so_far rows j z) (λ x z. spans cols x && eqb z at) (λ x z. spans cols x && so_far rows (j + 1) z) _ _
+      (λ x z. ap (λ t. spans cols x && t) (so_far_more rows j z h) ∙ and-or_distrib_left (spans cols x) (eqb z at) (so_far rows j z))
+      (λ x z t.
+      let q = and_parts (spans cols x) (eqb z at) t in
+      rows_value j x z h (eqb-true z _ q.1))
+
+  pub rows_turned_more : (q q' : Picture) (j k : ℕ) → j < rows.len → k ≡ turn rows j → q ≡ rows_turned rule source cols rows j p
+      → q' ≡ row_whole rule source cols (rows.first + k) (rows.source + k) q
+      → q' ≡ rows_turned rule source cols rows (j + 1) p
+  rows_turned_more q q' j k h ek e e' =
+      e' ∙ ap (row_whole rule source cols (rows.first + k) (rows.source + k)) e
+      ∙ ap (λ n. row_whole rule source cols (rows.first + n) (rows.source + n) (rows_turned rule source cols rows j p)) ek ∙ rows_turn j h
+
+-- ── The case of a blit and its ink ──
+
+inked_kept : (ink : Ink) → Kept (inked ink)
 unfolding painted
 inked_kept (Value n) p t v x y e = refl
 inked_kept Itself p t v x y e = cond-false (t x y) (v x y) (p.at x y) e
-
-or_and : (a b c : Bool) → ((a || b) && c) ≡ ((a && c) || (b && c))
-or_and true true true = refl
-or_and true true false = refl
-or_and true false true = refl
-or_and true false false = refl
-or_and false b c = refl
-
-and_or : (a b c : Bool) → (a && (b || c)) ≡ ((a && b) || (a && c))
-and_or true b c = refl
-and_or false b c = refl
 
 -- the picture with a blit's columns painted in row y, from row sy; after i turns in that row; and after j turns of rows
 unfoldable pub row_painted : Blit → ℕ → ℕ → Picture → Picture
 row_painted b y sy p = painted p (λ x z. spans b.columns x && eqb z y) (λ x z. mixed b p sy x z)
 
 unfoldable pub row_so_far : Blit → ℕ → ℕ → ℕ → Picture → Picture
-row_so_far b y sy i p = painted p (λ x z. so_far b.columns i x && eqb z y) (λ x z. mixed b p sy x z)
+row_so_far b y sy i p = row_turned b.rule.number (inked b.ink) b.columns y sy i p
 
 unfoldable pub rows_so_far : Blit → ℕ → Picture → Picture
-rows_so_far b j p = painted p (λ x z. spans b.columns x && so_far b.rows j z) (λ x z. mixed b p (opposite b.rows z) x z)
+rows_so_far b j p = rows_turned b.rule.number (inked b.ink) b.columns b.rows j p
 
 module _ (b : Blit) (y sy : ℕ) (p : Picture) where
   pub row_none : p ≡ row_so_far b y sy 0 p
   unfolding row_so_far
-  row_none = sym (painted_none p _ _ (λ x z. and_left (so_far b.columns 0 x) (eqb z y) (so_far_none b.columns x)))
+  row_none = row_turned_none b.rule.number (inked b.ink) (inked_kept b.ink) b.columns y sy p
 
   pub row_all : row_so_far b y sy b.columns.len p ≡ row_painted b y sy p
   unfolding row_so_far row_painted
-  row_all = painted_same p _ _ _ _ (λ x z. ap (λ t. t && eqb z y) (so_far_all b.columns x)) (λ x z t. refl)
-
-  pub row_sizes : (i : ℕ) → sizes (row_so_far b y sy i p) ≡ sizes p
-  unfolding row_so_far
-  row_sizes i = painted_sizes p _ _
-
-  row_value : (i s x z : ℕ) → i < b.columns.len → s ≡ inked b.ink (row_so_far b y sy i p) (b.columns.source + turn b.columns i) sy
-      → x ≡ b.columns.first + turn b.columns i → z ≡ y
-      → combined (row_so_far b y sy i p).depth b.rule.number s ((row_so_far b y sy i p).at (b.columns.first + turn b.columns i) y)
-      ≡ mixed b p sy x z
-  unfolding row_so_far
-  row_value i s x z h e ex ez =
-      let cols : Span = b.columns in
-      let k : ℕ = turn cols i in
-      let t : ℕ → ℕ → Bool = λ a c. so_far cols i a && eqb c y in
-      let v : ℕ → ℕ → ℕ = λ a c. mixed b p sy a c in
-      let e1 : s ≡ inked b.ink p (opposite cols x) sy =
-      e ∙ inked_kept b.ink p t v (cols.source + k) sy (and_left _ _ (not_read cols i h)) ∙ ap (λ n. inked b.ink p n sy) (sym (ap (opposite cols) ex ∙ opposite_turn cols k)) in
-      let e2 : (painted p t v).at (cols.first + k) y ≡ p.at x z =
-      painted_at p t v (cols.first + k) y ∙ cond-false _ _ _ (and_left _ _ (not_painted cols i h)) ∙ ap (λ n. p.at n y) (sym ex) ∙ ap (p.at x) (sym ez) in
-      ap (λ (n : Size). combined n.depth b.rule.number s ((painted p t v).at (cols.first + k) y)) (painted_sizes p t v)
-      ∙ ap (λ n. combined p.depth b.rule.number n ((painted p t v).at (cols.first + k) y)) e1
-      ∙ ap (combined p.depth b.rule.number (inked b.ink p (opposite cols x) sy)) e2
-
-  row_turn : (i s : ℕ) → i < b.columns.len → s ≡ inked b.ink (row_so_far b y sy i p) (b.columns.source + turn b.columns i) sy
-      → with_pixel (row_so_far b y sy i p) (b.columns.first + turn b.columns i) y
-      (combined (row_so_far b y sy i p).depth b.rule.number s ((row_so_far b y sy i p).at (b.columns.first + turn b.columns i) y))
-      ≡ row_so_far b y sy (i + 1) p
-  unfolding row_so_far
-  row_turn i s h e =
-      let at : ℕ = b.columns.first + turn b.columns i in
-      painted_more p (λ a c. so_far b.columns i a && eqb c y) (λ a c. eqb a at && eqb c y) (λ a c. so_far b.columns (i + 1) a && eqb c y) _ _
-      (λ a c. ap (λ t. t && eqb c y) (so_far_more b.columns i a h) ∙ or_and (eqb a at) (so_far b.columns i a) (eqb c y))
-      (λ a c t.
-      let q = and_parts (eqb a at) (eqb c y) t in
-      row_value i s a c h e (eqb-true a _ q.0) (eqb-true c y q.1))
+  row_all = row_turned_all b.rule.number (inked b.ink) (inked_kept b.ink) b.columns y sy p
 
   -- one more turn, from any picture q that is the row so far
   pub row_more : (q q' : Picture) (i k s : ℕ) → i < b.columns.len → k ≡ turn b.columns i → q ≡ row_so_far b y sy i p
       → s ≡ inked b.ink q (b.columns.source + k) sy
       → q' ≡ with_pixel q (b.columns.first + k) y (combined q.depth b.rule.number s (q.at (b.columns.first + k) y))
       → q' ≡ row_so_far b y sy (i + 1) p
-  row_more q q' i k s h ek e es e' =
-      e' ∙ subst (λ (r : Picture). s ≡ inked b.ink r (b.columns.source + k) sy
-      → with_pixel r (b.columns.first + k) y (combined r.depth b.rule.number s (r.at (b.columns.first + k) y)) ≡ row_so_far b y sy (i + 1) p) (sym e)
-      (subst (λ (n : ℕ). s ≡ inked b.ink (row_so_far b y sy i p) (b.columns.source + n) sy
-      → with_pixel (row_so_far b y sy i p) (b.columns.first + n) y
-      (combined (row_so_far b y sy i p).depth b.rule.number s ((row_so_far b y sy i p).at (b.columns.first + n) y))
-      ≡ row_so_far b y sy (i + 1) p) (sym ek) (row_turn i s h)) es
+  unfolding row_so_far
+  row_more = row_turned_more b.rule.number (inked b.ink) (inked_kept b.ink) b.columns y sy p
 
 module _ (b : Blit) (p : Picture) where
   pub rows_none : p ≡ rows_so_far b 0 p
   unfolding rows_so_far
-  rows_none = sym (painted_none p _ _ (λ x z. and_right (spans b.columns x) (so_far b.rows 0 z) (so_far_none b.rows z)))
+  rows_none = rows_turned_none b.rule.number (inked b.ink) (inked_kept b.ink) b.columns b.rows p
 
   pub rows_all : rows_so_far b b.rows.len p ≡ performed b p
   unfolding rows_so_far performed
-  rows_all = painted_same p _ _ _ _ (λ x z. ap (λ t. spans b.columns x && t) (so_far_all b.rows z)) (λ x z t. refl)
-
-  pub rows_sizes : (j : ℕ) → sizes (rows_so_far b j p) ≡ sizes p
-  unfolding rows_so_far
-  rows_sizes j = painted_sizes p _ _
-
-  rows_value : (j x z : ℕ) → j < b.rows.len → z ≡ b.rows.first + turn b.rows j
-      → mixed b (rows_so_far b j p) (b.rows.source + turn b.rows j) x z ≡ mixed b p (opposite b.rows z) x z
-  unfolding rows_so_far
-  rows_value j x z h ez =
-      let rows : Span = b.rows in
-      let k : ℕ = turn rows j in
-      let t : ℕ → ℕ → Bool = λ a c. spans b.columns a && so_far rows j c in
-      let v : ℕ → ℕ → ℕ = λ a c. mixed b p (opposite rows c) a c in
-      let from : ℕ = opposite b.columns x in
-      let e1 : inked b.ink (painted p t v) from (rows.source + k) ≡ inked b.ink p from (opposite rows z) =
-      inked_kept b.ink p t v from (rows.source + k) (and_right _ _ (not_read rows j h)) ∙ ap (λ n. inked b.ink p from n) (sym (ap (opposite rows) ez ∙ opposite_turn rows k)) in
-      let e2 : (painted p t v).at x z ≡ p.at x z =
-      painted_at p t v x z ∙ cond-false _ _ _ (and_right _ _ (ap (so_far rows j) ez ∙ not_painted rows j h)) in
-      ap (λ (n : Size). combined n.depth b.rule.number (inked b.ink (painted p t v) from (rows.source + k)) ((painted p t v).at x z)) (painted_sizes p t v)
-      ∙ ap (λ n. combined p.depth b.rule.number n ((painted p t v).at x z)) e1
-      ∙ ap (combined p.depth b.rule.number (inked b.ink p from (opposite rows z))) e2
-
-  rows_turn : (j : ℕ) → j < b.rows.len
-      → row_painted b (b.rows.first + turn b.rows j) (b.rows.source + turn b.rows j) (rows_so_far b j p) ≡ rows_so_far b (j + 1) p
-  unfolding rows_so_far row_painted
-  rows_turn j h =
-      let at : ℕ = b.rows.first + turn b.rows j in
-      painted_more p (λ x z. spans b.columns x && so_far b.rows j z) (λ x z. spans b.columns x && eqb z at) (λ x z. spans b.columns x && so_far b.rows (j + 1) z) _ _
-      (λ x z. ap (λ t. spans b.columns x && t) (so_far_more b.rows j z h) ∙ and_or (spans b.columns x) (eqb z at) (so_far b.rows j z))
-      (λ x z t.
-      let q = and_parts (spans b.columns x) (eqb z at) t in
-      rows_value j x z h (eqb-true z _ q.1))
+  rows_all = rows_turned_all b.rule.number (inked b.ink) (inked_kept b.ink) b.columns b.rows p
 
   pub rows_more : (q q' : Picture) (j k : ℕ) → j < b.rows.len → k ≡ turn b.rows j → q ≡ rows_so_far b j p
       → q' ≡ row_painted b (b.rows.first + k) (b.rows.source + k) q
       → q' ≡ rows_so_far b (j + 1) p
-  rows_more q q' j k h ek e e' =
-      e' ∙ ap (row_painted b (b.rows.first + k) (b.rows.source + k)) e
-      ∙ ap (λ n. row_painted b (b.rows.first + n) (b.rows.source + n) (rows_so_far b j p)) ek ∙ rows_turn j h
+  unfolding rows_so_far row_painted
+  rows_more = rows_turned_more b.rule.number (inked b.ink) (inked_kept b.ink) b.columns b.rows p
 
 -- a value below a bound, or 0
 pub cond_less : (t : Bool) (a b : ℕ) → a < b → cond t a 0 < b

@@ -93,6 +93,14 @@ abbrev pub Unaltered : {A F X : Type 0} → Result A F → (before after : X) �
 Unaltered (Ok a) before after = Unit {0}
 Unaltered (Err f) before after = after ≡ before
 
+-- What a call that may change a bitmap does, for any kind of bitmap: it answers and leaves what the call on its picture does, what is no
+-- pixel stays (`keeps`), and a refused call leaves the very same value.
+pub record Called {B : Type 0} (picture : B → Picture) (keeps : B → B → Type 0) (old : B) (call : BitmapCall) (result : Result ℕ Fault) (new : B) : Type 0 where
+  pub answer : result ≡ bitmap_answer (picture old) call
+  pub after : picture new ≡ bitmap_after (picture old) call
+  pub rest : keeps old new
+  pub refused : Unaltered result old new
+
 -- ── Rows ──
 
 -- The pixel (a, b) is concerned by a call, if it is accepted.

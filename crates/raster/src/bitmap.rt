@@ -1,14 +1,14 @@
 //! What every kind of bitmap offers.
 ghost use Rattle.std.specs.Prelude.{◌≡◌};
 ghost use Rattle.raster.specs.Picture.{Picture, Sound, sizes};
-ghost use Rattle.raster.specs.Calls.{read_at, write_at, fill_with, scroll_by, bitmap_answer, bitmap_after, Unaltered};
+ghost use Rattle.raster.specs.Calls.{read_at, write_at, fill_with, scroll_by, bitmap_answer, Called};
 
 use crate::fault::Fault;
 use crate::rectangle::Rectangle;
 use crate::size::Size;
 use crate::transfer::Transfer;
 
-/// The five calls of a bitmap. A refused call leaves the very same value.
+/// The five calls of a bitmap.
 pub trait Bitmap {
     /// The picture that the bitmap means.
     ghost picture: { Self → Picture };
@@ -26,24 +26,15 @@ pub trait Bitmap {
 
     /// Sets the pixel at (x, y), and answers 0.
     fn write(&mut self, x: i16, y: i16, v: u8) -> Result<u32, Fault>
-        ensures answer { result ≡ bitmap_answer (picture self.old) (write_at x y v) }
-        ensures after { picture self.new ≡ bitmap_after (picture self.old) (write_at x y v) }
-        ensures rest { keeps self.old self.new }
-        ensures refused { Unaltered result self.old self.new };
+        ensures { Called picture keeps self.old (write_at x y v) result self.new };
 
     /// BitBlt onto a rectangle from a source that has the value `v` everywhere; the count of pixels concerned.
     fn fill(&mut self, rule: u8, v: u8, area: Rectangle) -> Result<u32, Fault>
-        ensures answer { result ≡ bitmap_answer (picture self.old) (fill_with rule v area.x area.y area.w area.h) }
-        ensures after { picture self.new ≡ bitmap_after (picture self.old) (fill_with rule v area.x area.y area.w area.h) }
-        ensures rest { keeps self.old self.new }
-        ensures refused { Unaltered result self.old self.new };
+        ensures { Called picture keeps self.old (fill_with rule v area.x area.y area.w area.h) result self.new };
 
     /// BitBlt within the bitmap; the count of pixels concerned.
     fn scroll(&mut self, transfer: Transfer) -> Result<u32, Fault>
-        ensures answer { result ≡ bitmap_answer (picture self.old) (scroll_by transfer) }
-        ensures after { picture self.new ≡ bitmap_after (picture self.old) (scroll_by transfer) }
-        ensures rest { keeps self.old self.new }
-        ensures refused { Unaltered result self.old self.new };
+        ensures { Called picture keeps self.old (scroll_by transfer) result self.new };
 
     ghost sound: { (b : Self) → Sound (picture b) };
 

@@ -29,6 +29,7 @@ const RESULTS: [[u8; 4]; 16] = [
 pub const SOURCE: u8 = 3;
 
 /// One of the sixteen rules.
+// A number, not sixteen names: its four bits are the results, and the table is read by it.
 #[derive(Clone, Copy)]
 pub struct Rule {
     number: u8,

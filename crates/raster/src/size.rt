@@ -2,6 +2,7 @@
 ghost use Rattle.std.specs.Prelude.{◌≡◌, ◌^◌, if◌then◌else◌, Some, None, pos, nat_le, unsigned_abs};
 ghost use Rattle.raster.specs.Blt.{holds};
 ghost use Rattle.raster.specs.Calls.{unless, bitmap_fault, read_at, write_at};
+ghost use Rattle.raster.specs.Rows.{capped};
 
 use crate::fault::Fault;
 use crate::refusal::Refusal;
@@ -15,7 +16,7 @@ pub struct Size {
 }
 
 /// A coordinate as an index, if it is one of the first `n`.
-fn below(z: i16, n: u16) -> Option<u16>
+pub fn below(z: i32, n: u16) -> Option<u16>
     ensures { result ≡ (if holds (pos 0) n z then Some (unsigned_abs z) else None) }
 {
     match u16::try_from(z) {
@@ -25,6 +26,17 @@ fn below(z: i16, n: u16) -> Option<u16>
 }
 
 impl Size {
+    /// The size of a bitmap that is asked for: cut to 1,024 by 1,024, and the depth brought into 1 to 4.
+    pub fn capped(width: u16, height: u16, depth: u8) -> Size
+        ensures { result ≡ capped width height depth }
+    {
+        Size {
+            width: width.min(1024),
+            height: height.min(1024),
+            depth: depth.clamp(1, 4),
+        }
+    }
+
     /// Whether a pixel cannot have the value: it is 2^depth or more.
     pub(crate) fn excludes(self, v: u8) -> bool
         ensures { result ≡ nat_le (2 ^ self.depth) v }
@@ -36,8 +48,8 @@ impl Size {
     pub fn read_place(self, x: i16, y: i16) -> Result<(u16, u16), Fault>
         ensures { result ≡ unless (bitmap_fault self (read_at x y)) (unsigned_abs x, unsigned_abs y) }
     {
-        below(x, self.width)
-            .zip(below(y, self.height))
+        below(i32::from(x), self.width)
+            .zip(below(i32::from(y), self.height))
             .ok_or(Fault {
                 refusal: Refusal::OutsideBitmap,
                 x,

@@ -1,5 +1,5 @@
 //! One axis of a BitBlt, cut to the bitmaps.
-ghost use Rattle.std.specs.Prelude.{◌≡◌, ◌<◌, pos, ◌+ℤ◌};
+ghost use Rattle.std.specs.Prelude.{◌≡◌};
 ghost use Rattle.raster.specs.Blits.{turn};
 ghost use Rattle.raster.specs.Clip.{Clipped};
 
@@ -11,21 +11,14 @@ pub struct Span {
     pub len: u16,
 }
 
-/// A coordinate counted from -32,768, so that it is not negative.
-fn biased(z: i16) -> u32
-    ensures value { pos result ≡ z +ℤ pos 32768 }
-    ensures below { result < 65536 }
-{
-    (i32::from(z) + 32768) as u32
-}
-
 impl Span {
     /// Cuts `n` coordinates from `d`, taken from those from `s`, to the sizes of source and destination.
     pub fn clip(s: i16, d: i16, n: u16, source: u16, dest: u16) -> Span
         ensures { Clipped s d n source dest result }
     {
-        let s = biased(s);
-        let d = biased(d);
+        // counted from -32,768, so that none is negative
+        let s = u32::from(s.abs_diff(i16::MIN));
+        let d = u32::from(d.abs_diff(i16::MIN));
         let low = d.saturating_sub(32768).max(d.saturating_sub(s));
         let past = (d + u32::from(n)).saturating_sub(32768);
         let high = (d + u32::from(source))
