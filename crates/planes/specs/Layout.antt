@@ -1,8 +1,8 @@
 -- Planes: how a list of 32-bit words holds the pixels of a bitmap.
-use Rattle.std.specs.Prelude.{◌≡◌, ℕ, ◌+◌, ◌-◌, ◌*◌, ◌/◌, ◌%◌, ◌^◌, ◌<◌, ◌≤◌, min, max, cond, ◌&&◌, List, length, ◌==◌, ◌≢◌, nat_lt, slice_index}
+use Rattle.std.specs.Prelude.{◌≡◌, ℕ, ◌+◌, ◌-◌, ◌*◌, ◌/◌, ◌%◌, ◌^◌, ◌<◌, ◌≤◌, cond, ◌&&◌, List, length, ◌≢◌, nat_lt, slice_index}
 use Rattle.raster.specs.Rules.{total, bit}
 use Rattle.raster.specs.Picture.{Picture}
-use Rattle.raster.specs.Rows.{rows_carried}
+use Rattle.raster.specs.Rows.{capped, rows_carried}
 use Rattle.raster.specs.declared.size.Size.{Size}
 
 -- the words of a row: a 32nd of its width, rounded up
@@ -38,14 +38,10 @@ Carried n s = (s.width ≤ 1024) × (s.height ≤ 1024) × (1 ≤ s.depth) × (s
 abbrev pub InBitmap : Size → (x y : ℕ) → Type 0
 InBitmap s x y = (x < s.width) × (y < s.height)
 
--- The size of planes made on n words: width and height are cut to 1,024, the depth is brought into 1 to 4,
--- and the height is cut to what the words carry. Words carry every height of a width of 0.
+-- The size of planes made on n words: what is asked for is capped, and the height is cut to what the words carry.
+-- Words carry every height of a width of 0.
 abbrev pub made_size : (n w h depth : ℕ) → Size
-made_size n w h depth = record {
-  width = min w 1024;
-  height = rows_carried n (stride (min w 1024) * max 1 (min depth 4)) (min h 1024);
-  depth = max 1 (min depth 4);
-}
+made_size n w h depth = let s : Size = capped w h depth in record s { height = rows_carried n (stride s.width * s.depth) s.height }
 
 -- Bit k of word i is no pixel's.
 abbrev pub Unused : Size → (i k : ℕ) → Type 0

@@ -13,17 +13,12 @@ impl Planes {
         ensures picture { picture_of result ≡ laid_out words.items (made_size (vec_len words) width height depth) }
         ensures words { words_of result ≡ words.items }
     {
-        let width = width.min(1024);
-        let depth = depth.clamp(1, 4);
-        let row = stride(width) * usize::from(depth);
-        let height = rows_carried(words.len(), row, height.min(1024));
+        let size = Size::capped(width, height, depth);
+        let row = stride(size.width) * usize::from(size.depth);
+        let height = rows_carried(words.len(), row, size.height);
         Planes {
             words,
-            size: Size {
-                width,
-                height,
-                depth,
-            },
+            size: Size { height, ..size },
         }
     }
 
@@ -31,7 +26,6 @@ impl Planes {
     pub fn into_words(self) -> Vec<u32>
         ensures { result.items ≡ words_of self }
     {
-        let Planes { words, size: _ } = self;
-        words
+        self.words
     }
 }

@@ -7,6 +7,9 @@ ghost use Rattle.planes.specs.Means.{picture_of, PlanesKept};
 use crate::planes::Planes;
 use raster::Blit;
 
+// Layers of a desk are painted likewise, in the crate draw. One text for both would be a trait over a struct of the two bitmaps that a layer lies
+// on, and no trait can say that such a struct holds the same two still after each call.
+// That a blit's places are in the bitmap stays a precondition: it speaks of the blit and of the bitmap together, so no type of either can carry it.
 #[tactic(auto, using(crate::proofs::Painting::painting))]
 impl Planes {
     /// Paints the columns of a blit in the row `y`, from the row `sy`.
@@ -17,6 +20,7 @@ impl Planes {
         ensures after { picture_of self.new ≡ row_painted blit y sy (picture_of self.old) }
         ensures rest { PlanesKept self.old self.new }
     {
+        // By an index: the law of the order speaks of the turn's number (`turn` of raster/specs/Blits.antt), and both ends of the pair follow from it.
         for i in 0..blit.columns.len {
             let k = blit.columns.turn(i);
             let s = self.sample(blit.ink, blit.columns.source + k, sy);
@@ -31,6 +35,7 @@ impl Planes {
         ensures after { picture_of self.new ≡ performed blit (picture_of self.old) }
         ensures rest { PlanesKept self.old self.new }
     {
+        // By an index: the law of the order speaks of the turn's number (`turn` of raster/specs/Blits.antt), and both ends of the pair follow from it.
         for j in 0..blit.rows.len {
             let k = blit.rows.turn(j);
             self.paint_row(blit, blit.rows.first + k, blit.rows.source + k);

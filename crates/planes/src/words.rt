@@ -13,7 +13,7 @@ use raster::{Ink, Rule};
 pub(crate) fn stride(width: u16) -> usize
     ensures { result ≡ stride width }
 {
-    (width as usize).div_ceil(32)
+    usize::from(width).div_ceil(32)
 }
 
 /// The word with its bit `k` set to `b`.
@@ -23,10 +23,11 @@ fn put_bit(word: u32, k: u16, b: u8) -> u32
     ensures here { bit result k ≡ b }
     ensures others { (j : ℕ) → j ≢ k → bit result j ≡ bit word j }
 {
-    let change = ((word >> k) & 1) ^ b as u32;
+    let change = ((word >> k) & 1) ^ u32::from(b);
     word ^ (change << k)
 }
 
+// That a place is in the bitmap stays a precondition: it speaks of the place and of the bitmap together, so no type of either can carry it.
 impl Planes {
     /// The index of the word of plane `j` that holds the pixel (x, y).
     #[tactic(auto, unfolding(crate::specs::Layout::word_of))]
@@ -37,7 +38,9 @@ impl Planes {
         ensures below { result < vec_len self.now.words }
     {
         let stride = stride(self.size.width);
-        j as usize * self.size.height as usize * stride + y as usize * stride + x as usize / 32
+        usize::from(j) * usize::from(self.size.height) * stride
+            + usize::from(y) * stride
+            + usize::from(x / 32)
     }
 
     /// The pixel (x, y).

@@ -3,7 +3,7 @@ use Rattle.std.specs.Prelude.{◌≡◌, ℕ, ◌<◌, Bool, cond, ◌&&◌, Lis
 use Rattle.raster.specs.Rules.{combined}
 use Rattle.raster.specs.Picture.{Picture, painted}
 use Rattle.raster.specs.Blits.{spans, opposite}
-use Rattle.raster.specs.Calls.{BitmapCall, bitmap_answer, bitmap_after, row_concerned, Unaltered}
+use Rattle.raster.specs.Calls.{BitmapCall, row_concerned, Called}
 use Rattle.raster.specs.declared.fault.Fault.{Fault}
 use Rattle.raster.specs.declared.span.Span.{Span}
 use Rattle.runrows.specs.Runs.{run_rows, Rewritten}
@@ -35,9 +35,7 @@ pub record RowsRewritten (touched : ℕ → Bool) (p q : RunRows) : Type 0 where
 abbrev pub RowsKept : RunRows → RunRows → Type 0
 RowsKept p q = (touched : ℕ → Bool) × RowsRewritten touched p q
 
--- What a call answers and leaves: what every bitmap promises, and each row with a pixel concerned stands in its one writing, and all other entries stay.
-pub record Called (call : BitmapCall) (r : Result ℕ Fault) (p q : RunRows) : Type 0 where
-  pub answer : r ≡ bitmap_answer (picture_of p) call
-  pub after : picture_of q ≡ bitmap_after (picture_of p) call
-  pub refused : Unaltered r p q
-  pub entries : RowsRewritten (row_concerned (picture_of p) call) p q
+-- What a call does: what every bitmap promises, and each row with a pixel concerned stands in its one writing, and all other entries stay.
+pub record RowsCalled (old : RunRows) (call : BitmapCall) (result : Result ℕ Fault) (new : RunRows) : Type 0 where
+  pub called : Called picture_of RowsKept old call result new
+  pub entries : RowsRewritten (row_concerned (picture_of old) call) old new

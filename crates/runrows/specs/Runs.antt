@@ -1,8 +1,8 @@
 -- Run rows: how a list of 16-bit entries holds the pixels of a bitmap, each row as runs of equal pixels.
-use Rattle.std.specs.Prelude.{◌≡◌, ℕ, suc, ◌-◌, ◌*◌, ◌/◌, ◌%◌, ◌^◌, ◌<◌, ◌≤◌, min, max, Bool, true, false, cond, ◌&&◌, List, [], ◌∷◌, length, take, drop, ◌==◌, ◌≢◌, nat_lt, slice_index}
+use Rattle.std.specs.Prelude.{◌≡◌, ℕ, suc, ◌-◌, ◌*◌, ◌/◌, ◌%◌, ◌^◌, ◌<◌, ◌≤◌, Bool, true, false, cond, ◌&&◌, List, [], ◌∷◌, length, take, drop, ◌==◌, ◌≢◌, nat_lt, slice_index}
 use Rattle.raster.specs.Rules.{total}
 use Rattle.raster.specs.Picture.{Picture}
-use Rattle.raster.specs.Rows.{rows_carried}
+use Rattle.raster.specs.Rows.{capped, rows_carried}
 use Rattle.raster.specs.declared.size.Size.{Size}
 
 -- The pixel x of a row. An entry is length * 16 + value; one of length 0 ends the row, pixels not reached are 0,
@@ -28,10 +28,10 @@ run_rows entries s = record {
 abbrev pub Carried : ℕ → Size → Type 0
 Carried n s = (s.width ≤ 1024) × (s.height ≤ 1024) × (1 ≤ s.depth) × (s.depth ≤ 4) × (s.height * s.width ≤ n)
 
--- The size of run rows made on n entries: width and height are cut to 1,024, the depth is brought into 1 to 4,
--- and the height is cut to what the entries carry. Entries carry every height of a width of 0.
+-- The size of run rows made on n entries: what is asked for is capped, and the height is cut to what the entries carry.
+-- Entries carry every height of a width of 0.
 abbrev pub made_size : (n w h depth : ℕ) → Size
-made_size n w h depth = record { width = min w 1024; height = rows_carried n (min w 1024) (min h 1024); depth = max 1 (min depth 4) }
+made_size n w h depth = let s : Size = capped w h depth in record s { height = rows_carried n s.width s.height }
 
 -- the length of the run k, and the pixels before it
 abbrev pub run_len : List ℕ → ℕ → ℕ

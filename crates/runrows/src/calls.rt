@@ -1,7 +1,7 @@
 //! The calls of run rows. Beside what every bitmap promises, each settles every entry:
 //! a row with a pixel concerned stands in its one writing, and all other entries stay.
 ghost use Rattle.raster.specs.Calls.{write_at, fill_with, scroll_by};
-ghost use Rattle.runrows.specs.Means.{picture_of, RowsKept, Called};
+ghost use Rattle.runrows.specs.Means.{picture_of, RowsKept, RowsCalled};
 ghost use Rattle.runrows.specs.Keep.{rows_sound, rows_same, rows_joins};
 
 use crate::runrows::RunRows;
@@ -28,7 +28,7 @@ impl Bitmap for RunRows {
     }
 
     fn write(&mut self, x: i16, y: i16, v: u8) -> Result<u32, Fault>
-        ensures { Called (write_at x y v) result self.old self.new }
+        ensures { RowsCalled self.old (write_at x y v) result self.new }
     {
         let (column, row) = self.size.write_place(x, y, v)?;
         self.put(column, row, v);
@@ -36,7 +36,7 @@ impl Bitmap for RunRows {
     }
 
     fn fill(&mut self, rule: u8, v: u8, area: Rectangle) -> Result<u32, Fault>
-        ensures { Called (fill_with rule v area.x area.y area.w area.h) result self.old self.new }
+        ensures { RowsCalled self.old (fill_with rule v area.x area.y area.w area.h) result self.new }
     {
         let blit = Blit::fill(self.size, rule, v, area)?;
         self.paint(blit);
@@ -44,7 +44,7 @@ impl Bitmap for RunRows {
     }
 
     fn scroll(&mut self, transfer: Transfer) -> Result<u32, Fault>
-        ensures { Called (scroll_by transfer) result self.old self.new }
+        ensures { RowsCalled self.old (scroll_by transfer) result self.new }
     {
         let blit = Blit::scroll(self.size, transfer)?;
         self.paint(blit);

@@ -12,16 +12,11 @@ impl RunRows {
         ensures picture { picture_of result ≡ run_rows entries.items (made_size (vec_len entries) width height depth) }
         ensures entries { entries_of result ≡ entries.items }
     {
-        let width = width.min(1024);
-        let height = rows_carried(entries.len(), usize::from(width), height.min(1024));
-        let depth = depth.clamp(1, 4);
+        let size = Size::capped(width, height, depth);
+        let height = rows_carried(entries.len(), usize::from(size.width), size.height);
         RunRows {
             entries,
-            size: Size {
-                width,
-                height,
-                depth,
-            },
+            size: Size { height, ..size },
         }
     }
 
@@ -29,7 +24,6 @@ impl RunRows {
     pub fn into_entries(self) -> Vec<u16>
         ensures { result.items ≡ entries_of self }
     {
-        let RunRows { entries, size: _ } = self;
-        entries
+        self.entries
     }
 }

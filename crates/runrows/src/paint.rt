@@ -17,17 +17,18 @@ fn blend(out: &mut [u8], source: &[u8], depth: u8, rule: Rule, columns: Span)
     requires reads { columns.source + columns.len ≤ length source.now }
     ensures { Blended (min depth 8) rule.number columns source.now out.old out.new }
 {
-    let first = columns.first as usize;
-    let from = columns.source as usize;
-    let len = columns.len as usize;
+    let first = usize::from(columns.first);
+    let from = usize::from(columns.source);
+    let len = usize::from(columns.len);
     let painted = &mut out[first..first + len];
     let source = &source[from..from + len];
-    // No `zip`: of what is written through an adapter of `iter_mut`, a proof knows the length alone.
+    // `enumerate` over `iter_mut` is the adapter whose elements are known after the loop; after a `zip`, a proof knows their count alone.
     for (i, pixel) in painted.iter_mut().enumerate() {
         *pixel = rule.combine(depth, source[i], *pixel);
     }
 }
 
+// That a row or a blit's place is in the bitmap stays a precondition: it speaks of the place and of the bitmap together, so no type of either can carry it.
 impl RunRows {
     /// The source pixels of an ink in row `y`.
     fn source(&self, ink: Ink, y: u16, out: &mut [u8])
@@ -51,7 +52,7 @@ impl RunRows {
     {
         let mut source = [0u8; WIDEST];
         let mut pixels = [0u8; WIDEST];
-        let width = self.size.width as usize;
+        let width = usize::from(self.size.width);
         let source = &mut source[..width];
         let pixels = &mut pixels[..width];
         self.source(blit.ink, sy, source);
@@ -70,6 +71,7 @@ impl RunRows {
         if blit.columns.len == 0 {
             return;
         }
+        // By an index: the law of the order speaks of the turn's number (`turn` of raster/specs/Blits.antt), and both ends of the pair follow from it.
         for j in 0..blit.rows.len {
             let k = blit.rows.turn(j);
             self.paint_row(blit, blit.rows.first + k, blit.rows.source + k);
@@ -85,7 +87,7 @@ impl RunRows {
         ensures rest { RowsRewritten (λ b. nat_eq b y) self.old self.new }
     {
         let mut pixels = [0u8; WIDEST];
-        let pixels = &mut pixels[..self.size.width as usize];
+        let pixels = &mut pixels[..usize::from(self.size.width)];
         self.unpack(y, pixels);
         pixels[x as usize] = v;
         self.write_row(y, pixels);

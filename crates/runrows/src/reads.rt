@@ -1,18 +1,29 @@
 //! How the pixels of a row are read, whatever its entries hold.
-ghost use Rattle.std.specs.Prelude.{◌≡◌, ℕ, ◌/◌, ◌%◌, ◌^◌, ◌<◌, length, slice_index};
+ghost use Rattle.std.specs.Prelude.{◌≡◌, ℕ, ◌+◌, ◌*◌, ◌/◌, ◌%◌, ◌^◌, ◌<◌, length, slice_index};
 ghost use Rattle.runrows.specs.Runs.{row_entries};
 ghost use Rattle.runrows.specs.Means.{entries_of, picture_of};
 
 use crate::runrows::RunRows;
+use std::ops::Range;
 
+// That a row is in the bitmap stays a precondition: it speaks of the row and of the bitmap together, so no type of either can carry it.
 impl RunRows {
+    /// Where the entries of row `y` stand in the list.
+    pub(crate) fn range(&self, y: u16) -> Range<usize>
+        ensures start { result.start ≡ y * self.now.size.width }
+        ensures end { result.end ≡ y * self.now.size.width + self.now.size.width }
+    {
+        let width = usize::from(self.size.width);
+        let start = usize::from(y) * width;
+        start..start + width
+    }
+
     /// The entries of row `y`.
     fn row(&self, y: u16) -> &[u16]
         requires { y < self.now.size.height }
         ensures { result.now ≡ row_entries (entries_of self.now) self.now.size.width y }
     {
-        let start = y as usize * self.size.width as usize;
-        &self.entries[start..start + self.size.width as usize]
+        &self.entries[self.range(y)]
     }
 
     /// The length and the value of an entry's run.
@@ -57,7 +68,7 @@ impl RunRows {
             if len == 0 {
                 break;
             }
-            let end = (start + len as usize).min(out.len());
+            let end = (start + usize::from(len)).min(out.len());
             out[start..end].fill(value);
             start = end;
         }

@@ -12,16 +12,17 @@ fn add_pixel(row: &mut [u16], n: usize, v: u8) -> usize
     requires short { (k : ℕ) → k < n → slice_index row.old k < 32768 }
     ensures { Added row.old n v row.new result }
 {
-    if n > 0 && row[n - 1] % 16 == v as u16 {
+    if n > 0 && row[n - 1] % 16 == u16::from(v) {
         row[n - 1] += 16;
         n
     } else {
-        row[n] = 16 + v as u16;
+        row[n] = 16 + u16::from(v);
         n + 1
     }
 }
 
 /// Writes the pixels as runs, each as long as it can be, and 0 after them.
+// The runs are written where they stand, in the list that is handed in, so the count of them is kept beside.
 fn write_runs(row: &mut [u16], pixels: &[u8])
     requires long { length row.old ≡ length pixels.now }
     requires wide { length pixels.now ≤ 1024 }
@@ -35,6 +36,7 @@ fn write_runs(row: &mut [u16], pixels: &[u8])
     row[n..].fill(0);
 }
 
+// That a row is in the bitmap stays a precondition: it speaks of the row and of the bitmap together, so no type of either can carry it.
 impl RunRows {
     /// Writes row `y`, which then stands in its one writing.
     pub(crate) fn write_row(&mut self, y: u16, pixels: &[u8])
@@ -44,10 +46,7 @@ impl RunRows {
         ensures after { picture_of self.new ≡ with_row (picture_of self.old) y pixels.now }
         ensures rest { RowsRewritten (λ b. nat_eq b y) self.old self.new }
     {
-        let start = y as usize * self.size.width as usize;
-        write_runs(
-            &mut self.entries[start..start + self.size.width as usize],
-            pixels,
-        );
+        let range = self.range(y);
+        write_runs(&mut self.entries[range], pixels);
     }
 }

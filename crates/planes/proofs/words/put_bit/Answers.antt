@@ -40,4 +40,4 @@ module _ (n k b : ℕ) (lk : k < 32) (lb : b < 2) where
 pub returns : goal.returns
 returns c =
     let a = c.args in
-    record { here = here a.word a.k a.b (omega arith) (omega arith); others = elsewhere a.word a.k a.b (omega arith) (omega arith) }
+    rw c.from.ensures record { here = here a.word a.k a.b (omega arith) (omega arith); others = elsewhere a.word a.k a.b (omega arith) (omega arith) }

@@ -8,4 +8,6 @@ returns c =
     let a = c.args in
     let l = c.loop-i in
     let long : length l.painted ≡ a.columns.len = l.auto.painted ∙ simp (length-take, length-drop) (omega arith) in
-    blended (min a.depth 8) a.rule.number a.columns a.source.now a.out.now l.painted c.requires.paints c.requires.reads long (λ k h. l.invariant.done k (omega arith))
+    rw (c.from-first.ensures, c.from-len.ensures)
+    (blended (min a.depth 8) a.rule.number a.columns a.source.now a.out.now l.painted c.requires.paints c.requires.reads long
+    (λ k h. rw (c.from-first.ensures, c.from-from.ensures, c.from-len.ensures) at (l.invariant.done k (omega arith))))

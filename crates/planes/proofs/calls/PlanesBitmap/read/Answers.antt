@@ -1,8 +1,7 @@
 use Rattle.std.proofs.Common.{nat_abs}
-use Rattle.std.proofs.lemmas.Result.{err_from_is_err_and}
 use Rattle.std.proofs.lemmas.Int.{to_z-of_z}
 use Rattle.raster.specs.Calls.{read_at}
-use Rattle.raster.proofs.Called.{place_refused, read_found}
+use Rattle.raster.proofs.Called.{place_refused, hands_on, read_found}
 use Rattle.planes.specs.Means.{picture_of}
 use Rattle.planes.proofs.calls.PlanesBitmap.read.Goals as goal
 
@@ -11,8 +10,7 @@ returns-in_err-column c =
     let a = c.args in
     let fx = c.ranges.x in
     let fy = c.ranges.y in
-    let p = err_from_is_err_and c.from_residual.result c.from_residual.ensures.1 in
-    rw (p.1, p.2) (place_refused (picture_of a.self.now) (read_at a.x a.y) _ (nat_abs a.x, nat_abs a.y) (simp to_z-of_z at c.in_err-column.ensures)).answer
+    hands_on _ _ c.from_residual.ensures.1 (place_refused (picture_of a.self.now) (read_at a.x a.y) _ (nat_abs a.x, nat_abs a.y) (simp to_z-of_z at c.in_err-column.ensures))
 
 pub get-requires : goal.get-requires
 get-requires c =

@@ -1,17 +1,13 @@
-use Rattle.std.proofs.Common.{refl}
-use Rattle.std.proofs.lemmas.Result.{err_from_is_err_and}
 use Rattle.raster.specs.Calls.{scroll_by}
-use Rattle.raster.proofs.Called.{refused, blit_painted}
-use Rattle.planes.specs.Means.{picture_of}
+use Rattle.raster.proofs.Called.{refused, call_refused, blit_painted}
+use Rattle.planes.specs.Means.{picture_of, PlanesKept}
 use Rattle.planes.specs.Keep.{planes_same}
 use Rattle.planes.proofs.calls.PlanesBitmap.scroll.Goals as goal
 
 pub returns-in_err-blit : goal.returns-in_err-blit
 returns-in_err-blit c =
     let a = c.args in
-    let p = err_from_is_err_and c.from_residual.result c.from_residual.ensures.1 in
-    let r = refused (picture_of a.self.now) (scroll_by a.transfer) _ c.in_err-blit.ensures in
-    rw (p.1, p.2) (record { answer = r.answer; after = r.after; rest = planes_same a.self.now; refused = refl })
+    call_refused picture_of PlanesKept a.self.now (planes_same a.self.now) (scroll_by a.transfer) _ _ c.from_residual.ensures.1 (refused (picture_of a.self.now) _ _ c.in_err-blit.ensures)
 
 pub returns : goal.returns
 returns c =

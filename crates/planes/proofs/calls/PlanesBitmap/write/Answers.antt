@@ -1,9 +1,8 @@
-use Rattle.std.proofs.Common.{ℕ, nat_abs, refl}
-use Rattle.std.proofs.lemmas.Result.{err_from_is_err_and}
+use Rattle.std.proofs.Common.{ℕ, nat_abs}
 use Rattle.std.proofs.lemmas.Int.{to_z-of_z}
 use Rattle.raster.specs.Calls.{write_at}
-use Rattle.raster.proofs.Called.{place_refused, write_found}
-use Rattle.planes.specs.Means.{picture_of}
+use Rattle.raster.proofs.Called.{place_refused, call_refused, write_found}
+use Rattle.planes.specs.Means.{picture_of, PlanesKept}
 use Rattle.planes.specs.Keep.{planes_same}
 use Rattle.planes.proofs.calls.PlanesBitmap.write.Goals as goal
 
@@ -12,9 +11,8 @@ returns-in_err-column c =
     let a = c.args in
     let fx = c.ranges.x in
     let fy = c.ranges.y in
-    let p = err_from_is_err_and c.from_residual.result c.from_residual.ensures.1 in
-    let r = place_refused (picture_of a.self.now) (write_at a.x a.y a.v) _ (nat_abs a.x, nat_abs a.y) (simp to_z-of_z at c.in_err-column.ensures) in
-    rw (p.1, p.2) (record { answer = r.answer; after = r.after; rest = planes_same a.self.now; refused = refl })
+    call_refused picture_of PlanesKept a.self.now (planes_same a.self.now) (write_at a.x a.y a.v) _ _ c.from_residual.ensures.1
+    (place_refused (picture_of a.self.now) _ _ (nat_abs a.x, nat_abs a.y) (simp to_z-of_z at c.in_err-column.ensures))
 
 pub put-requires : goal.put-requires
 put-requires c =

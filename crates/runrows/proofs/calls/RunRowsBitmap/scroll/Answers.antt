@@ -1,4 +1,3 @@
-use Rattle.std.proofs.lemmas.Result.{err_from_is_err_and}
 use Rattle.raster.specs.Calls.{BitmapCall, scroll_by}
 use Rattle.raster.proofs.Called.{refused, blit_painted}
 use Rattle.runrows.specs.Means.{picture_of}
@@ -9,8 +8,7 @@ pub returns-in_err-blit : goal.returns-in_err-blit
 returns-in_err-blit c =
     let a = c.args in
     let call : BitmapCall = scroll_by a.transfer in
-    let p = err_from_is_err_and c.from_residual.result c.from_residual.ensures.1 in
-    rw (p.1, p.2) (call_refused a.self.now call _ (refused (picture_of a.self.now) call _ c.in_err-blit.ensures))
+    call_refused a.self.now call _ _ c.from_residual.ensures.1 (refused (picture_of a.self.now) call _ c.in_err-blit.ensures)
 
 pub returns : goal.returns
 returns c =

@@ -1,11 +1,10 @@
 use Rattle.std.proofs.Common.{ℕ, nat_abs}
-use Rattle.std.proofs.lemmas.Result.{err_from_is_err_and}
 use Rattle.std.proofs.lemmas.Int.{to_z-of_z}
 use Rattle.raster.specs.Calls.{write_at}
 use Rattle.raster.proofs.Called.{place_refused, write_found}
 use Rattle.runrows.specs.Means.{picture_of}
 use Rattle.runrows.specs.Keep.{rewritten_as}
-use Rattle.runrows.proofs.Called.{call_refused}
+use Rattle.runrows.proofs.Called.{call_refused, call_accepted}
 use Rattle.runrows.proofs.calls.RunRowsBitmap.write.Goals as goal
 
 pub returns-in_err-column : goal.returns-in_err-column
@@ -13,8 +12,8 @@ returns-in_err-column c =
     let a = c.args in
     let fx = c.ranges.x in
     let fy = c.ranges.y in
-    let p = err_from_is_err_and c.from_residual.result c.from_residual.ensures.1 in
-    rw (p.1, p.2) (call_refused a.self.now _ _ (place_refused (picture_of a.self.now) (write_at a.x a.y a.v) _ (nat_abs a.x, nat_abs a.y) (simp to_z-of_z at c.in_err-column.ensures)))
+    call_refused a.self.now _ _ _ c.from_residual.ensures.1
+    (place_refused (picture_of a.self.now) (write_at a.x a.y a.v) _ (nat_abs a.x, nat_abs a.y) (simp to_z-of_z at c.in_err-column.ensures))
 
 pub put-requires : goal.put-requires
 put-requires c =
@@ -34,4 +33,4 @@ returns c =
     let row : ℕ = c.in_ok-column.row in
     let f = write_found (picture_of s) a.x a.y a.v column row (simp to_z-of_z at c.in_ok-column.ensures) in
     let kept = rewritten_as s c.put.new.self _ _ f.rows c.put.ensures.rest in
-    record { answer = f.answer; after = f.after _ c.put.ensures.after; refused = tt; entries = kept }
+    call_accepted s c.put.new.self _ 0 f.answer (f.after _ c.put.ensures.after) kept

@@ -29,7 +29,7 @@ returns c =
     let now : vec_items (with_items a.self.now.entries fs) ≡ fs = with_items_is a.self.now.entries fs (w.long ∙ c.deref_mut.ensures.len) in
     let written : RowWritten s a.y a.pixels.now (vec_items a.self.now.entries) (vec_items (with_items a.self.now.entries fs)) =
     subst (λ (es : List ℕ). RowWritten s a.y a.pixels.now es (vec_items (with_items a.self.now.entries fs))) is (subst (λ (gs : List ℕ). RowWritten s a.y a.pixels.now xs gs) (sym now) w) in
-    record {
+    rw (c.range-range.ensures.start, c.range-range.ensures.end) record {
       after = row_written s a.y a.pixels.now _ _ c.requires.down written;
       rest = record { size = refl; entries = written_rewrites s a.y a.pixels.now _ _ c.requires.down written };
     }
