@@ -1,7 +1,8 @@
 -- Orders of clients: sifted by a test, with a client last or first, and how long they are.
-use Rattle.std.proofs.Common.{◌≡◌, ℕ, zero, suc, ◌<◌, ◌≤◌, Bool, true, false, cond, not, ◌&&◌, ◌||◌, eqb, List, [], ◌∷◌, ◌++◌, length, get_or, set, ℤ, filter, sym, refl, ap, ◌∙◌, ap₂, arith}
+use Rattle.std.proofs.Common.{◌≡◌, ℕ, zero, suc, ◌<◌, ◌≤◌, Bool, true, false, cond, not, ◌&&◌, ◌||◌, eqb, List, [], ◌∷◌, ◌++◌, length, get_or, set, ℤ, filter, sym, refl, ap, ◌∙◌, ap₂, arith, rules}
 use Rattle.std.proofs.lemmas.List.{get_or-set_same, get_or-set_other, append-nil}
-use Rattle.std.proofs.lemmas.Bool.{and_parts, and_from, or_parts, or_left, not-true, eqb-true, eqb-false, true≢false}
+use Rattle.std.proofs.Math.Bool.{and-true, and-false, or_assoc}
+use Rattle.std.proofs.lemmas.Bool.{and_parts, and_from, or_parts, or_left, not-true, eqb-true, eqb-false, true≢false, and_right}
 use Rattle.std.proofs.lemmas.Bool.Decides.{nat_tests}
 use Rattle.paper.specs.Layers.{Layer, keep, only, without, alter, at_corner}
 use Rattle.raster.specs.declared.rectangle.Rectangle.{Rectangle}
@@ -36,10 +37,6 @@ outlines-++ (c ∷ cs) ds fs = ap (λ ls. outline c (get_or fs c no_frame) ∷ l
 pub has-++ : (d : ℕ) (xs ys : List ℕ) → has d (xs ++ ys) ≡ (has d xs || has d ys)
 has-++ d [] ys = refl
 has-++ d (x ∷ xs) ys = ap (λ b. eqb x d || b) (has-++ d xs ys) ∙ sym (or_assoc (eqb x d) (has d xs) (has d ys))
-  where
-    or_assoc : (a b c : Bool) → ((a || b) || c) ≡ (a || (b || c))
-    or_assoc true b c = refl
-    or_assoc false b c = refl
 
 pub has_kept : (t : ℕ → Bool) (d : ℕ) (cs : List ℕ) → has d (filter t cs) ≡ (has d cs && t d)
 has_kept t d [] = refl
@@ -48,11 +45,10 @@ has_kept t d (c ∷ cs) = go (has_kept t d cs) (eqb c d) refl (t c) refl
     go : has d (filter t cs) ≡ (has d cs && t d) → (q : Bool) → eqb c d ≡ q → (b : Bool) → t c ≡ b
         → has d (cond b (c ∷ filter t cs) (filter t cs)) ≡ ((q || has d cs) && t d)
     go ih true e true k = ap (λ x. x || has d (filter t cs)) e ∙ sym k ∙ ap t (eqb-true c d e)
-    go ih true e false k = ih ∙ no (has d cs) (t d) (sym (ap t (eqb-true c d e)) ∙ k)
+    go ih true e false k = ih ∙ and_right (has d cs) (t d) fails ∙ sym fails
       where
-        no : (a b : Bool) → b ≡ false → (a && b) ≡ b
-        no true b h = refl
-        no false b h = sym h
+        fails : t d ≡ false
+        fails = sym (ap t (eqb-true c d e)) ∙ k
     go ih false e true k = ap (λ x. x || has d (filter t cs)) e ∙ ih
     go ih false e false k = ih
 
@@ -88,11 +84,7 @@ same_test : (c : ℕ) → eqb c c ≡ true
 same_test c = grind (arith, nat_tests)
 
 pub others_lack : (c : ℕ) (cs : List ℕ) → has c (others c cs) ≡ false
-others_lack c cs = has_kept _ c cs ∙ ap (λ b. has c cs && not b) (same_test c) ∙ no (has c cs)
-  where
-    no : (a : Bool) → (a && false) ≡ false
-    no true = refl
-    no false = refl
+others_lack c cs = has_kept _ c cs ∙ ap (λ b. has c cs && not b) (same_test c) ∙ and-false (has c cs)
 
 pub others_have : (c d : ℕ) (cs : List ℕ) → has d (others c cs) ≡ (has d cs && not (eqb c d))
 others_have c d cs = has_kept _ d cs
@@ -160,24 +152,18 @@ has_raised c d cs h = has-++ d (others c cs) (c ∷ []) ∙ ap (λ b. b || (eqb 
     go true e = all (has d cs) ∙ sym (sym (ap (λ x. has x cs) (eqb-true c d e)) ∙ h)
       where
         all : (a : Bool) → ((a && false) || true) ≡ true
-        all true = refl
-        all false = refl
+        all a = search rules
     go false e = rest (has d cs)
       where
         rest : (a : Bool) → ((a && true) || false) ≡ a
-        rest true = refl
-        rest false = refl
+        rest a = search rules
 
 pub has_lowered : (c d : ℕ) (cs : List ℕ) → has c cs ≡ true → has d (c ∷ others c cs) ≡ has d cs
 has_lowered c d cs h = ap (λ b. eqb c d || b) (others_have c d cs) ∙ go (eqb c d) refl
   where
     go : (b : Bool) → eqb c d ≡ b → (b || (has d cs && not b)) ≡ has d cs
     go true e = sym (sym (ap (λ x. has x cs) (eqb-true c d e)) ∙ h)
-    go false e = rest (has d cs)
-      where
-        rest : (a : Bool) → (a && true) ≡ a
-        rest true = refl
-        rest false = refl
+    go false e = and-true (has d cs)
 
 -- ── How many clients there are ──
 

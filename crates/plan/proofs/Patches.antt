@@ -1,6 +1,7 @@
 -- A patch is hidden exactly if its rectangle is not on the screen as a whole, or meets that of a higher layer.
 use Rattle.std.proofs.Common.{◌≡◌, ℕ, zero, suc, ◌+◌, ◌-◌, ◌*◌, ◌<◌, ◌≤◌, min, Bool, true, false, cond, not, ◌&&◌, ◌||◌, eqb, ltb, ◌⊎◌, List, [], ◌∷◌, get_or, ℤ, pos, ◌+ℤ◌, ◌-ℤ◌, nat_abs, sym, refl, ap, ◌∙◌, inl, inr, ⊎_elim, arith, w16, SFits}
 use lib.Signed.{le_z}
+use Rattle.std.specs.Cmp.{both_ways}
 use Rattle.std.proofs.lemmas.Int.{ints}
 use Rattle.std.proofs.lemmas.Bool.{and_parts, and_from, and_cases, and_left, and_right, le-ltb, or_left, or_right, or_cases, or_parts, eqb-true, not-true, not_from_false, cases_Bool, cases_lt, lt-ltb, ltb-true, false≢true}
 use Rattle.std.proofs.lemmas.Bool.Decides.{nat_tests}
@@ -52,11 +53,6 @@ pub any_one : (f : ℕ → Bool) (n : ℕ) → any_below f n ≡ true → (k : �
 any_one f zero e = absurd (false≢true e)
 any_one f (suc n) e =
     ⊎_elim (λ (h : any_below f n ≡ true). let q = any_one f n h in (q.0, omega (arith, q.1), q.2)) (λ (h : f n ≡ true). (n, omega arith, h)) (or_cases (any_below f n) (f n) e)
-
-pub same_bool : (a b : Bool) → (a ≡ true → b ≡ true) → (b ≡ true → a ≡ true) → a ≡ b
-same_bool true b f g = sym (f refl)
-same_bool false true f g = g refl
-same_bool false false f g = refl
 
 -- ── Both axes ──
 
@@ -115,12 +111,8 @@ module _ (f : Rectangle) (u v : ℕ) where
         (p.0, 0, p.1, omega arith, p.2, omega arith, ap (λ b. b && holds (pos 0) s.height (y (v + 0))) p.3))
         (λ (l : within (y v) bottom s.height ≡ false).
         let p = axis_out f.y v f.h s.height hv l in
-        (0, p.0, omega arith, p.1, omega arith, p.2, no _ _ p.3))
+        (0, p.0, omega arith, p.1, omega arith, p.2, and_right _ _ p.3))
         (and_cases (within (x u) right s.width) (within (y v) bottom s.height) e)
-      where
-        no : (a b : Bool) → b ≡ false → (a && b) ≡ false
-        no true b h = h
-        no false b h = refl
 
     -- a pixel that is off the screen or covered, and one of each
     abbrev lost : ℕ → ℕ → Bool
@@ -165,14 +157,17 @@ module _ (f : Rectangle) (u v : ℕ) where
 
 -- ── The patch in column i and row j ──
 
+-- it is hidden if one of its pixels is obscured
+pub obscured_hides : (s : Size) (higher : List Layer) (l : Layer) (i j a b : ℕ) → a < 16 → b < 16 → obscured s higher l (16 * i + a) (16 * j + b) ≡ true → hidden s higher l i j ≡ true
+unfolding hidden
+obscured_hides s higher l i j a b ha hb e =
+    any_of (λ v. any_below (λ u. obscured s higher l (16 * i + u) (16 * j + v)) 16) 16 b hb (any_of (λ u. obscured s higher l (16 * i + u) (16 * j + b)) 16 a ha e)
+
 module _ (s : Size) (higher : List Layer) (c : ℕ) (f : Rectangle) (i j : ℕ) where
   area_hidden : hidden_area s higher f (16 * i) (16 * j) ≡ true → hidden s higher (outline c f) i j ≡ true
-  unfolding hidden
   area_hidden e =
       let p = area_lost f (16 * i) (16 * j) s higher e in
-      any_of (λ v. any_below (λ u. obscured s higher (outline c f) (16 * i + u) (16 * j + v)) 16) 16 p.1 p.3
-      (any_of (λ u. obscured s higher (outline c f) (16 * i + u) (16 * j + p.1)) 16 p.0 p.2
-      (and_from _ _ (and_from _ _ (lt-ltb (16 * i + p.0) f.w p.4) (lt-ltb (16 * j + p.1) f.h p.5)) p.6))
+      obscured_hides s higher (outline c f) i j p.0 p.1 p.2 p.3 (and_from _ _ (and_from _ _ (lt-ltb (16 * i + p.0) f.w p.4) (lt-ltb (16 * j + p.1) f.h p.5)) p.6)
 
   hidden_lost : hidden s higher (outline c f) i j ≡ true → hidden_area s higher f (16 * i) (16 * j) ≡ true
   unfolding hidden
@@ -184,7 +179,7 @@ module _ (s : Size) (higher : List Layer) (c : ℕ) (f : Rectangle) (i j : ℕ) 
       lost_area f (16 * i) (16 * j) s higher q.0 p.0 q.1 p.1 (ltb-true _ _ t.0) (ltb-true _ _ t.1) r.1
 
   pub hidden_by_area : hidden s higher (outline c f) i j ≡ hidden_area s higher f (16 * i) (16 * j)
-  hidden_by_area = same_bool _ _ hidden_lost area_hidden
+  hidden_by_area = both_ways _ _ hidden_lost area_hidden
 
 -- ── Among the layers of some clients ──
 

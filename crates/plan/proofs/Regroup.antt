@@ -1,5 +1,5 @@
 -- Sums over the numbers of patches, regrouped by client, row and column.
-use Rattle.std.proofs.Common.{◌≡◌, ℕ, zero, suc, ◌+◌, ◌*◌, ◌/◌, ◌%◌, ◌<◌, ◌≤◌, Bool, true, false, cond, not, ◌||◌, eqb, ◌⊎◌, List, [], ◌∷◌, get_or, sym, refl, ap, ◌∙◌, ap₂, inl, inr, ⊎_elim, add-zero, add_assoc, add-mul, one-mul, zero-add, zero-mul, add-one, arith}
+use Rattle.std.proofs.Common.{◌≡◌, ℕ, zero, suc, ◌+◌, ◌*◌, ◌/◌, ◌%◌, ◌<◌, ◌≤◌, Bool, true, false, cond, not, ◌||◌, eqb, ◌⊎◌, List, [], ◌∷◌, get_or, sym, refl, ap, ◌∙◌, ap₂, inl, inr, ⊎_elim, add-zero, add_assoc, suc-mul, zero-add, zero-mul, arith}
 use Rattle.std.proofs.lemmas.Nat.{div-mul-add, mod-mul-add}
 use Rattle.std.proofs.lemmas.Bool.{and_parts, cases_lt, cond-true, cond-false, eqb-true, eq-eqb, ne_eqb, or_left, or_right, not-true, both_ways}
 use Rattle.raster.specs.Rules.{total}
@@ -16,8 +16,7 @@ tally f n = total f n
 
 pub tally_alike : (f g : ℕ → ℕ) (n : ℕ) → ((k : ℕ) → k < n → f k ≡ g k) → tally f n ≡ tally g n
 unfolding tally
-tally_alike f g zero e = refl
-tally_alike f g (suc n) e = ap₂ ◌+◌ (tally_alike f g n (λ k l. e k (omega arith))) (e n (omega arith))
+tally_alike = total_alike
 
 pub tally_none : (f : ℕ → ℕ) (n : ℕ) → ((k : ℕ) → k < n → f k ≡ 0) → tally f n ≡ 0
 unfolding tally
@@ -54,14 +53,11 @@ tally_suc : (f : ℕ → ℕ) (n : ℕ) → tally f (suc n) ≡ tally f n + f n
 unfolding tally
 tally_suc f n = refl
 
-suc_mul : (a b : ℕ) → suc a * b ≡ a * b + b
-suc_mul a b = ap (λ n. n * b) (sym (add-one a)) ∙ add-mul a 1 b ∙ ap (λ n. a * b + n) (one-mul b)
-
 -- a blocks of b numbers
 pub tally_blocks : (f : ℕ → ℕ) (b a : ℕ) → tally f (a * b) ≡ tally (λ q. tally (λ r. f (q * b + r)) b) a
 tally_blocks f b zero = ap (tally f) (zero-mul b) ∙ tally_empty f ∙ sym (tally_empty (λ q. tally (λ r. f (q * b + r)) b))
 tally_blocks f b (suc a) =
-    ap (tally f) (suc_mul a b) ∙ tally_join f (a * b) b ∙ ap (λ n. n + tally (λ r. f (a * b + r)) b) (tally_blocks f b a)
+    ap (tally f) (suc-mul a b) ∙ tally_join f (a * b) b ∙ ap (λ n. n + tally (λ r. f (a * b + r)) b) (tally_blocks f b a)
     ∙ sym (tally_suc (λ q. tally (λ r. f (q * b + r)) b) a)
 
 pub counted_tally : (test : ℕ → Bool) (n : ℕ) → counted test n ≡ tally (λ k. cond (test k) 1 0) n
@@ -108,16 +104,13 @@ module _ (c j i : ℕ) (hj : j < 15) (hi : i < 20) where
   number = c * 300 + (j * 20 + i)
 
   part_client : number / 300 ≡ c
-  part_client = div-mul-add c 300 (j * 20 + i) (omega arith)
-
-  part_rest : number % 300 ≡ j * 20 + i
-  part_rest = mod-mul-add c 300 (j * 20 + i) (omega arith)
+  part_client = omega arith
 
   part_column : number % 300 % 20 ≡ i
-  part_column = ap (λ n. n % 20) part_rest ∙ mod-mul-add j 20 i hi
+  part_column = omega arith
 
   part_row : number % 300 / 20 ≡ j
-  part_row = ap (λ n. n / 20) part_rest ∙ div-mul-add j 20 i hi
+  part_row = omega arith
 
 abbrev pub by_number : (ℕ → ℕ → ℕ → Bool) → ℕ → Bool
 by_number test k = test (k / 300) (k % 300 % 20) (k % 300 / 20)

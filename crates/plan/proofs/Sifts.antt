@@ -1,6 +1,7 @@
 -- What an arrangement becomes when its layers are put in another order, moved or opened.
 use Rattle.std.proofs.Common.{◌≡◌, ℕ, zero, suc, ◌+◌, ◌<◌, ◌≤◌, Bool, true, false, not, ◌&&◌, ◌||◌, eqb, ltb, List, [], ◌∷◌, ◌++◌, length, get_or, take, set, ℤ, sym, refl, ap, ◌∙◌, subst, ap₂, ⊎_elim, arith}
 use Rattle.std.proofs.lemmas.List.{length-take-le, take_more_set, get_or-set_same, get_or-set_other, get_or_past, get_or-take, length-take}
+use Rattle.std.proofs.Math.Bool.{or-false}
 use Rattle.std.proofs.lemmas.Bool.{cases_eq, cases_lt, and_from, and_parts, ltb-true, not-true}
 use Rattle.paper.specs.Layers.{Layer, without, only, alter, at_corner}
 use Rattle.raster.specs.declared.rectangle.Rectangle.{Rectangle}
@@ -111,8 +112,4 @@ module _ (p : Plan) (c : ℕ) (f : Rectangle) (k : length p.order ≡ 8) (o : Op
   open_order = let r = open_place in take_more_set p.order p.count c (omega arith)
 
 pub has_last : (c d : ℕ) (cs : List ℕ) → has d (cs ++ (c ∷ [])) ≡ (has d cs || eqb c d)
-has_last c d cs = has-++ d cs (c ∷ []) ∙ ap (λ b. has d cs || b) (or_none (eqb c d))
-  where
-    or_none : (b : Bool) → (b || false) ≡ b
-    or_none true = refl
-    or_none false = refl
+has_last c d cs = has-++ d cs (c ∷ []) ∙ ap (λ b. has d cs || b) (or-false (eqb c d))

@@ -8,18 +8,9 @@ ghost use Rattle.plan.specs.Plans.{listed, layers_in, frame_in, outlines, above,
 ghost use Rattle.plan.specs.Areas.{met, hidden_area};
 
 use crate::area::Area;
+use crate::patch::corner;
 use crate::plan::Plan;
-use raster::Rectangle;
-
-/// A number as one of the first `n`, if it is one.
-fn on_axis(n: u16, z: i32) -> Option<u16>
-    ensures { result ≡ (if holds (pos 0) n z then Some (unsigned_abs z) else None) }
-{
-    match u16::try_from(z) {
-        Ok(k) if k < n => Some(k),
-        _ => None,
-    }
-}
+use raster::{Rectangle, below};
 
 impl Plan {
     /// The clients with an open layer, from bottom to top.
@@ -72,8 +63,8 @@ impl Plan {
         ensures { result ≡ (if seen self.now c u v then Some (unsigned_abs ((frame_in self.now c).x +ℤ pos u), unsigned_abs ((frame_in self.now c).y +ℤ pos v)) else None) }
     {
         let frame = self.frame(c);
-        let x = on_axis(self.screen.width, frame.x as i32 + u as i32)?;
-        let y = on_axis(self.screen.height, frame.y as i32 + v as i32)?;
+        let x = below(frame.x as i32 + u as i32, self.screen.width)?;
+        let y = below(frame.y as i32 + v as i32, self.screen.height)?;
         if self.meets_above(c, Area::of_place(x as i32, y as i32)) {
             None
         } else {
@@ -117,10 +108,7 @@ impl Plan {
         if patch >= 2400 {
             return false;
         }
-        let c = (patch / 300) as u8;
-        if !self.is_open(c) {
-            return false;
-        }
-        self.hides_area(c, 16 * (patch % 300 % 20), 16 * (patch % 300 / 20))
+        let (c, u, v) = corner(patch);
+        self.is_open(c) && self.hides_area(c, u, v)
     }
 }

@@ -2,6 +2,7 @@
 ghost use Rattle.std.specs.Prelude.{◌≡◌, ◌&&◌, nat_lt};
 ghost use Rattle.plan.specs.Plans.{patch_of, needs};
 
+use crate::patch::corner;
 use crate::plan::Plan;
 
 impl Plan {
@@ -9,11 +10,9 @@ impl Plan {
     pub fn has_patch(&self, c: u8, patch: u16) -> bool
         ensures { result ≡ patch_of self.now c patch }
     {
-        if !self.is_open(c) || patch / 300 != c as u16 {
-            return false;
-        }
+        let (client, u, v) = corner(patch);
         let frame = self.frame(c);
-        16 * (patch % 300 % 20) < frame.w && 16 * (patch % 300 / 20) < frame.h
+        self.is_open(c) && client == c && u < frame.w && v < frame.h
     }
 }
 

@@ -6,6 +6,7 @@ mod arrange;
 mod ask;
 mod change;
 mod laws;
+mod patch;
 mod plan;
 mod start;
 
