@@ -1,6 +1,6 @@
 -- Tables adjusted to a change, as a whole or where it can tell, are right for all patches.
-use Rattle.std.proofs.Common.{◌≡◌, ℕ, ◌+◌, ◌<◌, ◌≤◌, Bool, true, false, cond, not, ◌&&◌, ◌||◌, eqb, ltb, sym, refl, ap, ◌∙◌, ⊎_elim, arith}
-use Rattle.std.specs.Prelude.{Some, None, Option, IfSome}
+use Rattle.std.proofs.Common.{◌≡◌, ℕ, ◌+◌, ◌<◌, ◌≤◌, Bool, true, false, cond, not, ◌&&◌, ◌||◌, eqb, ltb, sym, refl, ap, ◌∙◌, ⊎_elim, arith, rules}
+use Rattle.std.specs.Prelude.{Some, None, Option, IfSome, Ok, Err, Result}
 use Rattle.std.proofs.lemmas.Bool.Decides.{nat_tests}
 use Rattle.std.proofs.lemmas.Bool.{and_from, and_parts, eq-eqb, or_left, or_right, or_cases}
 use Rattle.plan.specs.declared.change.Change.{Change}
@@ -10,6 +10,7 @@ use Rattle.plan.specs.Frames.{has}
 use Rattle.plan.specs.Plans.{listed, frame_in, hidden_patch, needs}
 use Rattle.plan.specs.Counts.{passing}
 use Rattle.plan.proofs.Patches.{any_of}
+use Rattle.slots.specs.declared.single.NoSlot.{NoSlot}
 use Rattle.slots.specs.declared.slots.Slots.{Slots}
 use Rattle.slots.specs.Allots.{Retained, Supplied}
 use Rattle.slots.specs.Blocks.{in_row}
@@ -49,12 +50,8 @@ module _ (test : ℕ → Bool) (t m : Slots) (a : Retained t test m) where
       omega (
         arith,
         counted_fewer (λ k. has_slot m k || test k) test 2400 (λ k l h.
-            ⊎_elim (λ (x : has_slot m k ≡ true). and_left_true (test k) (has_slot t k) (sym (a.has k l) ∙ x)) (λ (x : test k ≡ true). x) (or_cases (has_slot m k) (test k) h)),
+            ⊎_elim (λ (x : has_slot m k ≡ true). (and_parts (test k) (has_slot t k) (sym (a.has k l) ∙ x)).0) (λ (x : test k ≡ true). x) (or_cases (has_slot m k) (test k) h)),
       )
-    where
-      and_left_true : (x y : Bool) → (x && y) ≡ true → x ≡ true
-      and_left_true true y h = refl
-      and_left_true false y h = h
 
 -- where an arrangement stays, the patches in need are those hidden
 pub needs_still : (q : Plan) (k : ℕ) → needs q q None k ≡ hidden_patch q k
@@ -79,11 +76,7 @@ retain_more test t m r n a b = record {
     more k = grind (arith, nat_tests)
 
     both : (t a e h : Bool) → ((t || not e) && ((t || not a) && h)) ≡ ((t || not (a || e)) && h)
-    both true a e h = refl
-    both false true true h = refl
-    both false true false h = refl
-    both false false true h = refl
-    both false false false h = refl
+    both t a e h = search rules
 
 -- ── Patches adjusted where a change of one layer can tell ──
 
@@ -130,9 +123,9 @@ module _ (ch : Change) (c : ℕ) (co : Concerns ch.before.now ch.after.now c) (o
               ⊎_elim (λ (x : has_slot t k ≡ true). x) (λ (x : needs q q None k ≡ true). serves k l (sym (needs_still q k) ∙ x)) (or_cases (has_slot t k) (needs q q None k) h)),
         )
 
-    pub near_release : (r : Slots) (b : Option (Unit {0})) → AdjustsBut (needs q q None) Rest t r b → Retained t (hidden_patch q) r
-    near_release r None short = absurd (never_short short)
-    near_release r (Some _) a = record {
+    pub near_release : (r : Slots) (b : Result (Unit {0}) NoSlot) → AdjustsBut (needs q q None) Rest t r b → Retained t (hidden_patch q) r
+    near_release r (Err _) short = absurd (never_short short)
+    near_release r (Ok _) a = record {
       places = a.adjusted.places;
       has = λ k l. has k l ∙ both (hidden_patch q k) (has_slot t k) (serves k l);
       same = λ k l h. a.adjusted.same k l (serves k l h) (has k l ∙ h);

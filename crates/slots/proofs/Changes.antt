@@ -1,5 +1,5 @@
 -- A change of one layer is no matter to the patches that neither its frame before nor its frame after meets.
-use Rattle.std.proofs.Common.{◌≡◌, ℕ, ◌+◌, ◌/◌, ◌%◌, ◌<◌, ◌≤◌, min, Bool, true, false, cond, not, ◌&&◌, ◌||◌, eqb, ltb, ◌⊎◌, List, [], ◌∷◌, get_or, ℤ, pos, ◌+ℤ◌, sym, refl, ap, ◌∙◌, ap₂, inl, inr, ⊎_elim, arith}
+use Rattle.std.proofs.Common.{◌≡◌, ℕ, ◌+◌, ◌/◌, ◌%◌, ◌<◌, ◌≤◌, min, Bool, true, false, cond, not, ◌&&◌, ◌||◌, eqb, ltb, ◌⊎◌, List, [], ◌∷◌, get_or, ℤ, pos, ◌+ℤ◌, sym, refl, ap, ◌∙◌, ap₂, inl, inr, ⊎_elim, arith, rules}
 use Rattle.std.specs.Prelude.{Some, None, Option, IfSome}
 use Rattle.std.proofs.lemmas.Int.{ints}
 use Rattle.std.proofs.lemmas.Bool.{cases_Bool, cases_eq, cases_lt, both_ways, eqb-true, eq-eqb, and_from, and_left, and_right, le-ltb, or_left, or_right}
@@ -18,8 +18,7 @@ use Rattle.slots.specs.Walks.{InLayer, Clear}
 use Rattle.plan.proofs.Lawful.{Outside, hidden_bounded}
 
 pub or_twice : (a : Bool) → (a || (a || false)) ≡ a
-or_twice true = refl
-or_twice false = refl
+or_twice a = search rules
 
 -- ── Layers that meet an area, without one that does not ──
 
@@ -167,17 +166,14 @@ module _ (p q : Plan) (c : ℕ) (ch : Concerns p q c) (area : Rectangle) (was : 
   moved_none (Some m) own =
       ⊎_elim (λ (e : eqb d m ≡ true). none (eqb-true d m e)) (λ (e : eqb d m ≡ false). and_right _ _ (and_left _ _ e)) (cases_Bool (eqb d m))
     where
-      last : (a b x : Bool) → x ≡ false → (a && (b && x)) ≡ false
-      last a b x h = and_right a (b && x) (and_right b x h)
-
       none : d ≡ m → patch_of q m k ≡ false
       none e =
           ⊎_elim
           (λ (i : InFrame (frame_in q d) k). absurd (own_none (e ∙ own) i))
           (λ (out : Outside (frame_in q d) (k % 300 % 20) (k % 300 / 20)).
-          last (has m (listed q)) (eqb d m) (ltb u (frame_in q m).w && ltb v (frame_in q m).h)
+          and_right (has m (listed q)) _ (and_right (eqb d m) _
           (ap (λ n. ltb u (frame_in q n).w && ltb v (frame_in q n).h) (sym e)
-          ∙ ⊎_elim (λ (a : (frame_in q d).w ≤ u). and_left _ _ (le-ltb u (frame_in q d).w a)) (λ (a : (frame_in q d).h ≤ v). and_right _ _ (le-ltb v (frame_in q d).h a)) out))
+          ∙ ⊎_elim (λ (a : (frame_in q d).w ≤ u). and_left _ _ (le-ltb u (frame_in q d).w a)) (λ (a : (frame_in q d).h ≤ v). and_right _ _ (le-ltb v (frame_in q d).h a)) out)))
           (frame_cases (frame_in q d) k)
 
   pub same_needs : (moved : Option ℕ) → IfSome moved (λ m. m ≡ c) → needs p q moved k ≡ hidden_patch p k

@@ -1,5 +1,6 @@
 -- How many patches pass a test, and how many another.
 use Rattle.std.proofs.Common.{◌≡◌, ℕ, zero, suc, ◌+◌, ◌<◌, ◌≤◌, Bool, true, false, cond, ◌||◌, eqb, sym, refl, ap, ◌∙◌, ⊎_elim, arith}
+use Rattle.std.proofs.lemmas.Bool.Decides.{nat_tests}
 use Rattle.std.proofs.lemmas.Bool.{cases_lt, eqb-true, eq-eqb, ne_eqb, or_right, or_cases}
 use Rattle.raster.specs.Rules.{total}
 use Rattle.raster.proofs.Digits.{total_alike}
@@ -54,5 +55,4 @@ counted_less f g n j l ef eg h =
     )
   where
     or_else : (a b : Bool) → b ≡ false → (a || b) ≡ a
-    or_else true b e = refl
-    or_else false b e = e
+    or_else a b e = grind (arith, nat_tests)

@@ -3,5 +3,4 @@ pub mod Spares
 pub mod Blocks
 pub mod Walks
 pub mod Changes
-pub mod Concerned
 pub mod Allotted

@@ -1,12 +1,13 @@
 -- Tables adjusted region by region.
 use Rattle.std.proofs.Common.{◌≡◌, ℕ, ◌+◌, ◌/◌, ◌<◌, ◌≤◌, Bool, true, false, cond, ◌||◌, eqb, sym, refl, ap, ◌∙◌, subst, ap₂, ⊎_elim, add-one, arith}
-use Rattle.std.specs.Prelude.{Some, None, Option}
-use Rattle.std.proofs.lemmas.Bool.{both_ways, ne_eqb, or_from, or_left, or_right, or_parts, or_cases}
+use Rattle.std.specs.Prelude.{Some, None, Option, Ok, Err, Result, IsErr}
+use Rattle.std.proofs.lemmas.Bool.{false_from_ne_true, both_ways, ne_eqb, or_from, or_left, or_right, or_parts, or_cases, false≢true}
 use Rattle.raster.specs.Calls.{any_below}
 use Rattle.raster.specs.declared.rectangle.Rectangle.{Rectangle}
 use Rattle.plan.specs.declared.plan.Plan.{Plan}
 use Rattle.plan.specs.Frames.{has}
 use Rattle.plan.specs.Plans.{listed, frame_in}
+use Rattle.slots.specs.declared.single.NoSlot.{NoSlot}
 use Rattle.slots.specs.declared.slots.Slots.{Slots}
 use Rattle.slots.specs.Blocks.{InFrame, patch_met}
 use Rattle.slots.specs.Tables.{has_slot}
@@ -70,10 +71,6 @@ module _ (test : ℕ → Bool) where
         counted_less (has_slot t) (λ j. has_slot t j || test j) 2400 k h none (or_right (has_slot t k) (test k) need) (λ j _ x. or_left (has_slot t j) (test j) x),
       )
 
--- what holds of a call that finds no slot left holds of what its caller passes on
-pub passed_on : {A : Type 0} (P : Option A → Type 0) (o : Option A) → o ≡ None → P None → P o
-passed_on P o e h = subst P (sym e) h
-
 -- ── Regions with something said of the patches outside ──
 
 module _ (test : ℕ → Bool) where
@@ -83,9 +80,9 @@ module _ (test : ℕ → Bool) where
 
   -- two regions, where outside both of them the one and the other is so
   module _ (rest : ℕ → Type 0) (P : ℕ → Bool) (t r s : Slots) (a : Adjusted test P t r) where
-    pub but_both : (Q : ℕ → Bool) → ((k : ℕ) → k < 2400 → P k ≡ false → Q k ≡ false → rest k) → (b : Option (Unit {0})) → Adjusts test Q r s b → AdjustsBut test rest t s b
-    but_both Q out None y = short_join test P Q t r a y
-    but_both Q out (Some _) y = record {
+    pub but_both : (Q : ℕ → Bool) → ((k : ℕ) → k < 2400 → P k ≡ false → Q k ≡ false → rest k) → (b : Result (Unit {0}) NoSlot) → Adjusts test Q r s b → AdjustsBut test rest t s b
+    but_both Q out (Err _) y = short_join test P Q t r a y
+    but_both Q out (Ok _) y = record {
       within = λ k. P k || Q k;
       adjusted = adjust_join test P Q t r a s y;
       outside = λ k h e. let q = or_parts (P k) (Q k) e in out k h q.0 q.1;
@@ -93,7 +90,7 @@ module _ (test : ℕ → Bool) where
 
   pub but_join : (R S rest : ℕ → Type 0) (t r s : Slots) → AdjustedBut test R t r → AdjustedBut test S r s → ((k : ℕ) → k < 2400 → R k → S k → rest k) → AdjustedBut test rest t s
   but_join R S rest t r s a b join =
-      but_both rest a.within t r s a.adjusted b.within (λ k h p q. join k h (a.outside k h p) (b.outside k h q)) (Some tt) b.adjusted
+      but_both rest a.within t r s a.adjusted b.within (λ k h p q. join k h (a.outside k h p) (b.outside k h q)) (Ok tt) b.adjusted
 
 -- the patches of a layer outside the blocks that two areas meet
 pub layer_clear : (q : Plan) (c d : ℕ) (area own f : Rectangle) (P Q : ℕ → Bool) → f ≡ frame_in q d → own ≡ frame_in q c
@@ -108,8 +105,7 @@ layer_clear q c d area own f P Q ef eo hp hq k p r e i =
     }
   where
     missed : (a b : Bool) → b ≡ false → (a ≡ true → b ≡ true) → a ≡ false
-    missed true b e h = absurd (both_ways b e (h refl))
-    missed false b e h = refl
+    missed a b e h = false_from_ne_true a (λ t. both_ways b e (h t))
 
 -- a layer that is not open, and not the client's, has no patches
 pub layer_shut : (q : Plan) (c d k : ℕ) → (d ≡ c → ⊥) → has d (listed q) ≡ false → k / 300 ≡ d → InLayer q c k → ⊥

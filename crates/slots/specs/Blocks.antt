@@ -1,17 +1,17 @@
 -- Blocks of patches: those of a layer that an area meets.
 use Rattle.std.specs.Prelude.{◌≡◌, ℕ, ◌+◌, ◌*◌, ◌/◌, ◌%◌, ◌<◌, ◌≤◌, min, Bool, true, cond, ℤ, pos, ◌+ℤ◌, ◌-ℤ◌, int_le, nat_eq, unsigned_abs}
+use Rattle.std.specs.declared.ops.Range.{Range}
 use Rattle.raster.specs.Calls.{any_below}
 use Rattle.raster.specs.declared.rectangle.Rectangle.{Rectangle}
 use Rattle.plan.specs.Areas.{reaches, meets}
-use Rattle.slots.specs.declared.block.Stretch.{Stretch}
 
 -- How far the place n past z lies past a corner; 0 if it does not.
 abbrev pub past : ℤ → ℕ → ℤ → ℕ
 past z n corner = cond (int_le corner (z +ℤ pos n)) (unsigned_abs ((z +ℤ pos n) -ℤ corner)) 0
 
--- A stretch has every patch of 16 pixels, along an axis of n pixels from x on, that has one of the m places from y on.
-abbrev pub Reached : (x : ℤ) (n : ℕ) (y : ℤ) (m : ℕ) → Stretch → Type 0
-Reached x n y m s = (i : ℕ) → 16 * i < n → reaches y m (x +ℤ pos (16 * i)) (x +ℤ pos (min (16 * i + 16) n)) ≡ true → (s.first ≤ i) × (i < s.first + s.count)
+-- A range has every patch of 16 pixels, along an axis of n pixels from x on, that has one of the m places from y on.
+abbrev pub Reached : (x : ℤ) (n : ℕ) (y : ℤ) (m : ℕ) → Range ℕ → Type 0
+Reached x n y m s = (i : ℕ) → 16 * i < n → reaches y m (x +ℤ pos (16 * i)) (x +ℤ pos (min (16 * i + 16) n)) ≡ true → (s.start ≤ i) × (i < s.end)
 
 -- The patch of a number is one of n from `first` on, and one in a block: the rows of a layer's patches lie 20 numbers apart.
 abbrev pub in_row : (first n : ℕ) → ℕ → Bool

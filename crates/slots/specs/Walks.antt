@@ -1,9 +1,10 @@
 -- Tables of slots, adjusted patch by patch.
-use Rattle.std.specs.Prelude.{◌≡◌, ℕ, ◌/◌, ◌<◌, Bool, true, false, cond, ◌||◌, Some, None, Option, ◌==◌}
+use Rattle.std.specs.Prelude.{◌≡◌, ℕ, ◌/◌, ◌<◌, Bool, true, false, cond, ◌||◌, Ok, Err, Result, ◌==◌}
 use Rattle.raster.specs.declared.rectangle.Rectangle.{Rectangle}
 use Rattle.plan.specs.declared.plan.Plan.{Plan}
 use Rattle.plan.specs.Frames.{has}
 use Rattle.plan.specs.Plans.{listed, frame_in}
+use Rattle.slots.specs.declared.single.NoSlot.{NoSlot}
 use Rattle.slots.specs.declared.slots.Slots.{Slots}
 use Rattle.slots.specs.Blocks.{InFrame, patch_met}
 use Rattle.plan.specs.Counts.{passing}
@@ -21,9 +22,9 @@ abbrev pub Short : (ℕ → Bool) → Slots → Type 0
 Short test t = t.places < passing (λ k. has_slot t k || test k)
 
 -- The table was adjusted in a region, or there are too few slots.
-abbrev pub Adjusts : (test within : ℕ → Bool) (t r : Slots) → Option (Unit {0}) → Type 0
-Adjusts test within t r None = Short test t
-Adjusts test within t r (Some _) = Adjusted test within t r
+abbrev pub Adjusts : (test within : ℕ → Bool) (t r : Slots) → Result (Unit {0}) NoSlot → Type 0
+Adjusts test within t r (Err _) = Short test t
+Adjusts test within t r (Ok _) = Adjusted test within t r
 
 -- The patch of a number is one of an open layer, or of a client's layer, in an arrangement.
 pub record InLayer (q : Plan) (c k : ℕ) : Type 0 where
@@ -41,6 +42,6 @@ pub record AdjustedBut (test : ℕ → Bool) (rest : ℕ → Type 0) (t r : Slot
   pub adjusted : Adjusted test within t r
   pub outside : (k : ℕ) → k < 2400 → within k ≡ false → rest k
 
-abbrev pub AdjustsBut : (test : ℕ → Bool) (rest : ℕ → Type 0) (t r : Slots) → Option (Unit {0}) → Type 0
-AdjustsBut test rest t r None = Short test t
-AdjustsBut test rest t r (Some _) = AdjustedBut test rest t r
+abbrev pub AdjustsBut : (test : ℕ → Bool) (rest : ℕ → Type 0) (t r : Slots) → Result (Unit {0}) NoSlot → Type 0
+AdjustsBut test rest t r (Err _) = Short test t
+AdjustsBut test rest t r (Ok _) = AdjustedBut test rest t r

@@ -5,7 +5,8 @@ ghost use Rattle.slots.specs.Entries.{entry, Clash, Spare, Double, Reused};
 
 /// Which of `places` slots each patch has: client c's patch in column i and row j has the entry 300 * c + 20 * j + i of the table.
 /// `used` slots are in use. The others stand in `spare`, from its entry `used` up to `places`, so that one is found, and given back,
-/// at once: a stack in a fixed array, since a table uses no heap.
+/// at once. This stack is an array with its length, and no `Vec`, since a table uses no heap, and no `ArrayVec`, which is not `Copy` and whose
+/// clone can fail: a table is copied where a change is tried, and no copy fails.
 #[derive(Clone, Copy)]
 pub struct Slots {
     pub(crate) places: u16,

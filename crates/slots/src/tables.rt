@@ -1,11 +1,12 @@
 //! Tables for the time of a change, and after it.
-ghost use Rattle.std.specs.Prelude.{◌≡◌, ℕ, ◌<◌, true, IfSome};
+ghost use Rattle.std.specs.Prelude.{◌≡◌, ℕ, ◌<◌, true, None, IfSome};
 ghost use Rattle.plan.specs.Frames.{has};
 ghost use Rattle.plan.specs.Plans.{listed, frame_in, hidden_patch};
 ghost use Rattle.slots.specs.Tables.{has_slot, Fits};
 ghost use Rattle.slots.specs.Allots.{Retained, Allotted};
 ghost use Rattle.slots.specs.Changes.{needed, Concerns};
 
+use crate::single::NoSlot;
 use crate::slots::Slots;
 use plan::{Change, Plan};
 use raster::Rectangle;
@@ -18,6 +19,19 @@ fn left_area(change: Change, c: u8) -> Rectangle
         change.before.frame(c)
     } else {
         change.after.frame(c)
+    }
+}
+
+/// The change for whose time only the hidden patches of an arrangement need slots: it stays as it is.
+fn still(plan: &Plan) -> Change
+    ensures before { result.before.now ≡ plan.now }
+    ensures after { result.after.now ≡ plan.now }
+    ensures moved { result.moved ≡ None }
+{
+    Change {
+        before: plan,
+        after: plan,
+        moved: None,
     }
 }
 
@@ -38,20 +52,17 @@ impl Slots {
         ensures { Allotted self.now (needed change.entry) result }
     {
         let mut slots = self.retained(change);
-        slots.adjust_row(change, 0, 2400)?;
-        Some(slots)
+        match slots.adjust_range(change, 0, 2400) {
+            Ok(()) => Some(slots),
+            Err(NoSlot) => None,
+        }
     }
 
     /// The table without the slots of patches that are not hidden.
     pub fn released(&self, plan: &Plan) -> Slots
         ensures { Retained self.now (hidden_patch plan.now) result }
     {
-        let still = Change {
-            before: plan,
-            after: plan,
-            moved: None,
-        };
-        self.retained(still)
+        self.retained(still(plan))
     }
 
     /// The table that `allot` makes, for a change of one client's layer alone: it looks only at the patches that can tell such a change.
@@ -59,21 +70,18 @@ impl Slots {
         ensures { Fits change.entry.before.now self.now → Concerns change.entry.before.now change.entry.after.now c → IfSome change.entry.moved (λ m. m ≡ c) → Allotted self.now (needed change.entry) result }
     {
         let mut slots = *self;
-        slots.adjust(change, c, left_area(change, c))?;
-        Some(slots)
+        match slots.adjust(change, c, left_area(change, c)) {
+            Ok(()) => Some(slots),
+            Err(NoSlot) => None,
+        }
     }
 
     /// The table after such a change, without the slots of patches that are not hidden; it looks at as few.
     pub fn released_near(&self, change: Change, c: u8) -> Slots
         ensures { Concerns change.entry.before.now change.entry.after.now c → IfSome change.entry.moved (λ m. m ≡ c) → ((k : ℕ) → k < 2400 → has_slot self.now k ≡ needed change.entry k) → Retained self.now (hidden_patch change.entry.after.now) result }
     {
-        let after = Change {
-            before: change.after,
-            after: change.after,
-            moved: None,
-        };
         let mut slots = *self;
-        let _ = slots.adjust(after, c, left_area(change, c)); // no patch needs a new slot
+        let _ = slots.adjust(still(change.after), c, left_area(change, c)); // no patch needs a new slot
         slots
     }
 }

@@ -5,11 +5,13 @@ ghost use Rattle.slots.specs.Blocks.{in_row, in_block};
 ghost use Rattle.slots.specs.Walks.{Adjusts, InLayer, Clear, AdjustsBut};
 ghost use Rattle.slots.specs.Changes.{needed};
 
-use crate::block::{Block, near};
+use crate::block::{Block, patches_met};
+use crate::single::NoSlot;
 use crate::slots::Slots;
 use plan::Change;
 use raster::Rectangle;
 
+// That patches are below 2,400 stays a precondition, as it does of a single slot: callers count through the table.
 impl Slots {
     /// Takes the slot of a patch back, if it has one and needs none.
     pub(crate) fn retain_patch(&mut self, change: Change, patch: u16)
@@ -21,62 +23,69 @@ impl Slots {
         }
     }
 
-    /// Gives a patch a slot if it needs one, and takes it back if it needs none. None, if a slot is needed and none is left.
-    fn adjust_patch(&mut self, change: Change, patch: u16) -> Option<()>
+    /// Gives a patch a slot if it needs one, and takes its slot back if it needs none.
+    fn adjust_patch(&mut self, change: Change, patch: u16) -> Result<(), NoSlot>
         requires { patch < 2400 }
         ensures { Adjusts (needed change.entry) (λ k. nat_eq k patch) self.old self.new result }
     {
         match (self.slot(patch).is_some(), change.needs(patch)) {
             (true, false) => self.give_back(patch),
-            (false, true) => self.take(patch)?,
+            (false, true) => self.grant(patch)?,
             _ => {}
         }
-        Some(())
+        Ok(())
     }
 
-    /// Does so with `count` patches from `first` on.
-    pub(crate) fn adjust_row(&mut self, change: Change, first: u16, count: u16) -> Option<()>
+    /// Adjusts the slots of the `count` patches from `first` on.
+    pub(crate) fn adjust_range(
+        &mut self,
+        change: Change,
+        first: u16,
+        count: u16,
+    ) -> Result<(), NoSlot>
         requires { first + count ≤ 2400 }
         ensures { Adjusts (needed change.entry) (in_row first count) self.old self.new result }
     {
-        for i in 0..count {
-            self.adjust_patch(change, first + i)?;
+        for patch in first..first + count {
+            self.adjust_patch(change, patch)?;
         }
-        Some(())
+        Ok(())
     }
 
-    /// Does so with the patches of a block.
-    fn adjust_block(&mut self, change: Change, block: Block) -> Option<()>
-        requires { (j : ℕ) → j < block.rows → block.first + 20 * j + block.columns ≤ 2400 }
+    /// Adjusts the slots of the patches of a block.
+    fn adjust_block(&mut self, change: Change, block: Block) -> Result<(), NoSlot>
         ensures { Adjusts (needed change.entry) (in_block block.first block.columns block.rows) self.old self.new result }
     {
         for j in 0..block.rows {
-            self.adjust_row(change, block.first + 20 * j, block.columns)?;
+            self.adjust_range(change, block.first + 20 * j, block.columns)?;
         }
-        Some(())
+        Ok(())
     }
 
-    /// Does so with the patches of the layer of the client `d` that an area meets, or the frame of the client `c`, if the layer is open or is c's.
-    fn adjust_layer(&mut self, change: Change, c: u8, area: Rectangle, d: u8) -> Option<()>
+    // That the client `d` is below 8 stays a precondition: the caller counts through the clients, and a type for them would be made and opened at
+    // each turn.
+    /// Adjusts the slots of the patches in the layer of the client `d` that an area meets, or the frame of the client `c`; of none, if the layer is
+    /// neither open nor c's.
+    fn adjust_layer(&mut self, change: Change, c: u8, area: Rectangle, d: u8) -> Result<(), NoSlot>
         requires { d < 8 }
         ensures { AdjustsBut (needed change.entry) (λ k. k / 300 ≡ d → InLayer change.entry.after.now c k → Clear change.entry.after.now c area k) self.old self.new result }
     {
         if d != c && !change.after.is_open(d) {
-            return Some(());
+            return Ok(());
         }
         let frame = change.after.frame(d);
         let own = change.after.frame(c);
-        self.adjust_block(change, near(d, frame, area))?;
-        self.adjust_block(change, near(d, frame, own))
+        self.adjust_block(change, patches_met(d, frame, area))?;
+        self.adjust_block(change, patches_met(d, frame, own))
     }
 
-    /// Does so with all patches that can tell a change of the client's layer, from an area to its frame after the change.
-    pub(crate) fn adjust(&mut self, change: Change, c: u8, area: Rectangle) -> Option<()>
+    /// Adjusts the slots of all patches that can tell a change of the client's layer, from an area to its frame after the change.
+    pub(crate) fn adjust(&mut self, change: Change, c: u8, area: Rectangle) -> Result<(), NoSlot>
         ensures { AdjustsBut (needed change.entry) (λ k. InLayer change.entry.after.now c k → Clear change.entry.after.now c area k) self.old self.new result }
     {
         for d in 0..8u8 {
             self.adjust_layer(change, c, area, d)?;
         }
-        Some(())
+        Ok(())
     }
 }

@@ -1,8 +1,8 @@
 use Rattle.std.proofs.Common.{◌≡◌, ◌/◌, ⊎_elim, arith}
 use Rattle.std.proofs.lemmas.Bool.{cases_eq}
+use Rattle.std.proofs.lemmas.Result.{err_from_is_err_and}
 use Rattle.slots.specs.Changes.{needed}
-use Rattle.slots.specs.Walks.{InLayer, Clear, AdjustsBut}
-use Rattle.slots.proofs.Walks.{but_none, but_join, short_join, passed_on}
+use Rattle.slots.proofs.Walks.{but_none, but_join, short_join}
 use Rattle.slots.proofs.slots.Slots.adjust.Goals as goal
 
 pub loop-d-init : goal.loop-d-init
@@ -13,8 +13,7 @@ returns-in_err-adjust_layer c =
     let t = c.args.self.now in
     let q = c.args.change.after.now in
     let a = c.loop-d.invariant in
-    passed_on (λ o. AdjustsBut (needed c.args.change) (λ k. InLayer q c.args.c k → Clear q c.args.c c.args.area k) t c.adjust_layer.new.self o) c.from_residual.result
-    c.from_residual.ensures
+    rw (err_from_is_err_and c.from_residual.result c.from_residual.ensures.1).1
     (short_join (needed c.args.change) a.within a.within t c.loop-d.self a.adjusted c.in_err-adjust_layer.ensures)
 
 pub loop-d-preserved : goal.loop-d-preserved

@@ -14,12 +14,12 @@ pub returns : goal.returns
 returns c =
     let a = c.args in
     let q = a.change.after.now in
-    let one = c.near.result in
-    let two = c.near-2.result in
+    let one = c.patches_met.result in
+    let two = c.patches_met-2.result in
     let P = in_block one.first one.columns one.rows in
     let Q = in_block two.first two.columns two.rows in
     but_both (needed a.change) (λ k. k / 300 ≡ a.d → InLayer q a.c k → Clear q a.c a.area k) P a.self.now c.adjust_block.new.self c.adjust_block-2.new.self
     c.in_ok-adjust_block.ensures Q
-    (λ k _ p r. layer_clear q a.c a.d a.area c.frame-own.result c.frame-frame.result P Q c.frame-frame.ensures c.frame-own.ensures c.near.ensures.all
-    c.near-2.ensures.all k p r)
+    (λ k _ p r. layer_clear q a.c a.d a.area c.frame-own.result c.frame-frame.result P Q c.frame-frame.ensures c.frame-own.ensures c.patches_met.ensures
+    c.patches_met-2.ensures k p r)
     c.adjust_block-2.result c.adjust_block-2.ensures

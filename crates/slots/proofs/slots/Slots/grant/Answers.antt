@@ -1,6 +1,6 @@
 use Rattle.std.proofs.Common.{◌≡◌, ◌<◌, length, arith, rules}
 use Rattle.slots.proofs.Spares.{taken_count, taken_low, taken_apart, taken_there, taken_free, taken_once}
-use Rattle.slots.proofs.slots.Slots.take.Goals as goal
+use Rattle.slots.proofs.slots.Slots.grant.Goals as goal
 
 pub invariant_of-self : goal.invariant_of-self
 invariant_of-self c =
