@@ -13,7 +13,7 @@ use Rattle.raster.specs.declared.rule.Rule.{Rule}
 use Rattle.raster.specs.declared.size.Size.{Size}
 use Rattle.raster.specs.declared.span.Span.{Span}
 use Rattle.raster.proofs.Paints.{painted_same}
-use Rattle.raster.proofs.Counts.{clipped_count}
+use Rattle.raster.proofs.Prepared.{clip_blt, clip_count}
 use Rattle.plan.specs.declared.plan.Plan.{Plan}
 use Rattle.plan.specs.Plans.{frame_in}
 use Rattle.hold.specs.declared.layer.Layer.{Layer}
@@ -44,34 +44,6 @@ module _ (p : Plan) (c : ℕ) (b : Blit) (w : BlitWithin p c b) where
 
 -- ── A stamp ──
 
--- the tests of two axes, put together and taken apart
-two_axes : (a b c d e f : Bool) → ((a && b) && ((c && d) && (e && f))) ≡ ((a && (c && e)) && (b && (d && f)))
-two_axes a b c d e f = search rules
-
-module _ (t : Transfer) (source d : Picture) (cols rows : Span)
-    (across : Clipped t.sx t.dx t.w source.width d.width cols) (down : Clipped t.sy t.dy t.h source.height d.height rows) where
-  clip_spans : (x y : ℕ) → concerned t (from_picture source) (sizes d) x y ≡ (spans cols x && spans rows y)
-  unfolding concerned hits
-  clip_spans x y =
-      two_axes (holds t.dx t.w (pos x)) (holds t.dy t.h (pos y)) (holds (pos 0) d.width (pos x)) (holds (pos 0) d.height (pos y))
-      (holds (pos 0) source.width (behind t.sx t.dx x)) (holds (pos 0) source.height (behind t.sy t.dy y))
-      ∙ ap (λ z. z && hits t.sy t.dy t.h source.height d.height y) (across.hit x) ∙ ap (λ z. spans cols x && z) (down.hit y)
-
-  -- All columns and rows combined with the source is the BitBlt.
-  pub blended_blt : (rule : ℕ) → rule ≡ t.rule → all_blended rule (λ _. source.at) cols rows d ≡ blt t (from_picture source) d
-  unfolding all_blended blt
-  blended_blt rule e =
-      sym (painted_same d (concerned t (from_picture source) (sizes d)) (λ x y. spans cols x && spans rows y) _ _ clip_spans
-      (λ x y u.
-      let q = and_parts (spans cols x) (spans rows y) (sym (clip_spans x y) ∙ u) in
-      ap (λ n. combined d.depth n (source.at (nat_abs (behind t.sx t.dx x)) (nat_abs (behind t.sy t.dy y))) (d.at x y)) (sym e)
-      ∙ ap₂ (λ a b. combined d.depth rule (source.at (nat_abs a) (nat_abs b)) (d.at x y)) (across.back x q.0) (down.back y q.1)))
-
-  -- As many pixels are combined as the BitBlt concerns.
-  pub blended_count : (r : Rule) → rows.len * cols.len ≡ count t (from_picture source) (sizes d)
-  blended_count r =
-      clipped_count t (from_picture source) d (record { rule = r; ink = Value 0; columns = cols; rows = rows }) across.paints down.paints clip_spans
-
 -- The transfer's clip, at the picture of the layer.
 module _ (l : Layer) (s0 t0 source : Picture) (tr : Transfer) (r : Rule) (cols rows : Span) (w : Stamps l.layout.plan.now l.client tr (sizes source) r cols rows) where
   abbrev own : Picture
@@ -96,7 +68,8 @@ module _ (l : Layer) (s0 t0 source : Picture) (tr : Transfer) (r : Rule) (cols r
   }
 
   pub stamp_blt : all_blended r.number (λ _. source.at) cols rows own ≡ blt tr (from_picture source) own
-  stamp_blt = blended_blt tr source own cols rows across_layer down_layer r.number w.by
+  unfolding all_blended
+  stamp_blt = clip_blt tr source own cols rows across_layer down_layer r.number (λ _. source.at) w.by (λ x y. refl)
 
   pub stamp_count : rows.len * cols.len ≡ count tr (from_picture source) (sizes own)
-  stamp_count = blended_count tr source own cols rows across_layer down_layer r
+  stamp_count = clip_count tr source own cols rows across_layer down_layer

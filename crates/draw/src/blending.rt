@@ -1,5 +1,5 @@
 //! Rectangles of layers, combined with a source pixel by pixel where they lie.
-ghost use Rattle.hold.specs.Bitmaps.{Draws};
+ghost use Rattle.hold.specs.Bitmaps.{Drawing};
 ghost use Rattle.draw.specs.Areas.{Within, RowWithin};
 ghost use Rattle.draw.specs.Sources.{row_blended, all_blended, ReadsRow, ReadsAll};
 
@@ -8,6 +8,7 @@ use crate::touch::touch;
 use hold::Layer;
 use raster::{Bitmap, Rule, Span};
 
+// Screen and store stay two parameters, as in hold.
 /// Combines the pixels of some columns in the row `y` of a layer with those opposite in the row `sy` of a source.
 fn blend_row<S: Bitmap, T: Bitmap, P: Source>(
     screen: &mut S,
@@ -19,9 +20,7 @@ fn blend_row<S: Bitmap, T: Bitmap, P: Source>(
     y: u16,
     sy: u16,
 )
-    ensures drawn { RowWithin layer.entry.layout.plan.now layer.entry.client columns y → ReadsRow (P.Source.places source.now layer.entry) columns sy → Draws S.Bitmap T.Bitmap layer.entry screen.old store.old screen.new store.new (row_blended rule.number (P.Source.pixel source.now) columns y sy) }
-    ensures screen { S.Bitmap.keeps screen.old screen.new }
-    ensures store { T.Bitmap.keeps store.old store.new }
+    ensures { Drawing S.Bitmap T.Bitmap (RowWithin layer.entry.layout.plan.now layer.entry.client columns y × ReadsRow (P.Source.places source.now layer.entry) columns sy) layer.entry screen.old store.old screen.new store.new (row_blended rule.number (P.Source.pixel source.now) columns y sy) }
 {
     for i in 0..columns.len {
         let k = columns.turn(i);
@@ -42,9 +41,7 @@ pub(crate) fn blend<S: Bitmap, T: Bitmap, P: Source>(
     columns: Span,
     rows: Span,
 )
-    ensures drawn { Within layer.entry.layout.plan.now layer.entry.client columns rows → ReadsAll (P.Source.places source.now layer.entry) columns rows → Draws S.Bitmap T.Bitmap layer.entry screen.old store.old screen.new store.new (all_blended rule.number (P.Source.pixel source.now) columns rows) }
-    ensures screen { S.Bitmap.keeps screen.old screen.new }
-    ensures store { T.Bitmap.keeps store.old store.new }
+    ensures { Drawing S.Bitmap T.Bitmap (Within layer.entry.layout.plan.now layer.entry.client columns rows × ReadsAll (P.Source.places source.now layer.entry) columns rows) layer.entry screen.old store.old screen.new store.new (all_blended rule.number (P.Source.pixel source.now) columns rows) }
 {
     for j in 0..rows.len {
         let k = rows.turn(j);

@@ -4,7 +4,7 @@ ghost use Rattle.raster.specs.Picture.{sizes};
 ghost use Rattle.raster.specs.Blt.{from_picture, count, blt};
 ghost use Rattle.raster.specs.declared.transfer.Transfer.{Transfer};
 ghost use Rattle.raster.specs.Blits.{performed};
-ghost use Rattle.hold.specs.Bitmaps.{layer_on, Draws};
+ghost use Rattle.hold.specs.Bitmaps.{layer_on, Draws, Drawing};
 ghost use Rattle.draw.specs.Areas.{BlitWithin};
 ghost use Rattle.draw.specs.Stamps.{Stamps};
 
@@ -15,9 +15,7 @@ use raster::{Bitmap, Blit, Rule, Span};
 
 /// Performs a blit on a layer.
 pub fn paint<S: Bitmap, T: Bitmap>(screen: &mut S, store: &mut T, layer: Layer<'_>, blit: Blit)
-    ensures drawn { BlitWithin layer.entry.layout.plan.now layer.entry.client blit → Draws S.Bitmap T.Bitmap layer.entry screen.old store.old screen.new store.new (performed blit) }
-    ensures screen { S.Bitmap.keeps screen.old screen.new }
-    ensures store { T.Bitmap.keeps store.old store.new }
+    ensures { Drawing S.Bitmap T.Bitmap (BlitWithin layer.entry.layout.plan.now layer.entry.client blit) layer.entry screen.old store.old screen.new store.new (performed blit) }
 {
     let Blit {
         rule,
@@ -29,7 +27,7 @@ pub fn paint<S: Bitmap, T: Bitmap>(screen: &mut S, store: &mut T, layer: Layer<'
 }
 
 /// Stamps another bitmap on a layer: the rest of a BitBlt that is clipped to `columns` and `rows`; the count of pixels concerned.
-// Rule, columns and rows stay parameters: a struct of them would be made by the one caller and taken apart at once.
+// Rule, columns and rows stay parameters: a `Blit` has all three, but also an ink, which a stamp has not.
 pub fn stamp<S: Bitmap, T: Bitmap, B: Bitmap>(
     screen: &mut S,
     store: &mut T,

@@ -1,5 +1,5 @@
 //! Single pixels of layers, combined with a source pixel.
-ghost use Rattle.hold.specs.Bitmaps.{HasPixel, Draws};
+ghost use Rattle.hold.specs.Bitmaps.{HasPixel, Drawing};
 ghost use Rattle.draw.specs.Touches.{touched};
 
 use hold::Layer;
@@ -15,9 +15,7 @@ pub(crate) fn touch<S: Bitmap, T: Bitmap>(
     x: u16,
     y: u16,
 )
-    ensures drawn { HasPixel layer.entry x y → Draws S.Bitmap T.Bitmap layer.entry screen.old store.old screen.new store.new (touched rule.number s x y) }
-    ensures screen { S.Bitmap.keeps screen.old screen.new }
-    ensures store { T.Bitmap.keeps store.old store.new }
+    ensures { Drawing S.Bitmap T.Bitmap (HasPixel layer.entry x y) layer.entry screen.old store.old screen.new store.new (touched rule.number s x y) }
 {
     let d = layer.read_pixel(screen, store, x, y);
     let value = rule.combine(screen.size().depth, s, d);

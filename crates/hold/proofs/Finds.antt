@@ -2,7 +2,7 @@
 use Rattle.std.proofs.Common.{◌≡◌, ℕ, ◌*◌, ◌/◌, ◌<◌, ◌≤◌, Bool, true, false, cond, ◌&&◌, ltb, pos, ◌+ℤ◌, nat_abs, Some, None, Option, sym, ap, ◌∙◌, subst, arith}
 use Rattle.std.proofs.lemmas.Bool.{false_from_ne_true, and_from, lt-ltb, cond-true, cond-false}
 use Rattle.std.proofs.lemmas.Option.{none-some, cond_some}
-use Rattle.raster.specs.Picture.{Picture}
+use Rattle.raster.specs.Picture.{Picture, sizes}
 use Rattle.plan.specs.declared.plan.Plan.{Plan}
 use Rattle.slots.specs.declared.slots.Slots.{Slots}
 use Rattle.plan.specs.Plans.{frame_in, seen, patch_at}
@@ -13,7 +13,7 @@ use Rattle.hold.specs.declared.spot.Spot.TheVariants.{Screen}
 use Rattle.hold.specs.Spots.{own_slot, store_spot, spot_of}
 use Rattle.hold.specs.Held.{Fitting}
 use Rattle.hold.specs.Bitmaps.{HasPixel}
-use Rattle.hold.proofs.Places.{own_patch, slot_held, slot_there, some_across}
+use Rattle.hold.proofs.Places.{own_patch, slot_held, slot_there, square, some_slot}
 
 module _ (width : ℕ) (l : Layer) (u v : ℕ) where
   abbrev p : Plan
@@ -50,11 +50,6 @@ module _ (width : ℕ) (l : Layer) (u v : ℕ) where
 
     -- and the store has that
     pub found_corner : (16 ≤ width) × (own_slot t c u v < 4096)
-    found_corner = (
-      go (ltb store.depth screen.depth) (subst (λ n. own_slot t c u v < n) f.places (slot_there p c u v o t f.fits off)),
-      omega (arith, slot_there p c u v o t f.fits off, t.room),
-    )
-      where
-        go : (b : Bool) → own_slot t c u v < cond b 0 ((store.width / 16) * (store.height / 16)) → 16 ≤ width
-        go true h = absurd (omega arith)
-        go false h = let some = some_across (own_slot t c u v) (store.width / 16) (store.height / 16) h in omega arith
+    found_corner =
+        let h = subst (λ n. own_slot t c u v < n) f.places (slot_there p c u v o t f.fits off) in
+        (omega (arith, (square (sizes store) _ (some_slot (sizes store) screen.depth _ h).0).wide), omega (arith, slot_there p c u v o t f.fits off, t.room))

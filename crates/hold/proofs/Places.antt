@@ -3,11 +3,12 @@ use Rattle.std.proofs.Common.{◌≡◌, ℕ, zero, suc, ◌+◌, ◌*◌, ◌/�
 use native.Mathlib.Nat.{div-add-mod}
 use Rattle.std.proofs.lemmas.Int.{ints}
 use Rattle.std.proofs.lemmas.Bool.Decides.{nat_tests}
-use Rattle.std.proofs.lemmas.Bool.{both_ways, false≢true, and_parts, and_from, or_left, or_right, not-true, not_from_false, eqb-true, ltb-true, ltb-false, lt-ltb, cases_eq}
+use Rattle.std.proofs.lemmas.Bool.{both_ways, false≢true, and_parts, and_from, or_left, or_right, not-true, not_from_false, eqb-true, ltb-false, lt-ltb, cases_eq}
 use Rattle.raster.specs.Picture.{Picture, sizes}
 use Rattle.raster.specs.Blt.{holds, inside}
 use Rattle.raster.specs.Calls.{any_below}
 use Rattle.raster.specs.declared.size.Size.{Size}
+use Rattle.raster.proofs.Accepts.{place_within, inside_place}
 use Rattle.paper.specs.Layers.{Layer, covers, covered}
 use Rattle.paper.specs.Slots.{obscured, hidden, hidden_in, slots_of}
 use Rattle.paper.proofs.HiddenPixels.{covers_pixel}
@@ -19,7 +20,7 @@ use Rattle.plan.specs.Plans.{outline, outlines, listed, layers_in, frame_in, abo
 use Rattle.slots.proofs.Spares.{slot_low, slots_apart}
 use Rattle.slots.specs.Tables.{has_slot, Fits}
 use Rattle.plan.proofs.Sifts.{open_low}
-use Rattle.plan.proofs.Patches.{any_of, hidden_open}
+use Rattle.plan.proofs.Patches.{obscured_hides, hidden_open}
 use Rattle.hold.specs.declared.spot.Spot.{Spot}
 use Rattle.hold.specs.declared.spot.Spot.TheVariants.{Screen, Store}
 use Rattle.hold.specs.Spots.{slot_x, slot_y, own_slot, screen_spot, store_spot, spot_of}
@@ -63,22 +64,17 @@ pub record OnScreen (p : Plan) (c u v x y : ℕ) : Type 0 where
   pub within : inside p.screen (pos x) (pos y) ≡ true
   pub free : covered (above c (layers_in p)) (pos x) (pos y) ≡ false
 
-not_negative : (n : ℕ) (z : ℤ) → holds (pos 0) n z ≡ true → z ≡ pos (nat_abs z)
-not_negative n z e = grind (arith, ints, nat_tests)
-
 pub seen_place : (p : Plan) (c u v : ℕ) → seen p c u v ≡ true → OnScreen p c u v (nat_abs ((frame_in p c).x +ℤ pos u)) (nat_abs ((frame_in p c).y +ℤ pos v))
 seen_place p c u v e =
     let x = (frame_in p c).x +ℤ pos u in
     let y = (frame_in p c).y +ℤ pos v in
     let q = and_parts (inside p.screen x y) (not (covered (above c (layers_in p)) x y)) e in
-    let r = and_parts (holds (pos 0) p.screen.width x) (holds (pos 0) p.screen.height y) q.0 in
-    let ex : x ≡ pos (nat_abs x) = not_negative p.screen.width x r.0 in
-    let ey : y ≡ pos (nat_abs y) = not_negative p.screen.height y r.1 in
+    let i = inside_place p.screen x y q.0 in
     record {
-      across = ex;
-      down = ey;
-      within = ap₂ (inside p.screen) (sym ex) (sym ey) ∙ q.0;
-      free = ap₂ (covered (above c (layers_in p))) (sym ex) (sym ey) ∙ not-true _ q.1;
+      across = i.0;
+      down = i.1;
+      within = ap₂ (inside p.screen) (sym i.0) (sym i.1) ∙ q.0;
+      free = ap₂ (covered (above c (layers_in p))) (sym i.0) (sym i.1) ∙ not-true _ q.1;
     }
 
 -- a visible pixel's place is covered by its layer
@@ -89,15 +85,6 @@ seen_covers p c u v x y o s =
 
 -- ── Obscured pixels ──
 
--- the patch of an obscured pixel is hidden
-obscured_hides : (screen : Size) (higher : List Layer) (l : Layer) (u v : ℕ) → obscured screen higher l u v ≡ true → hidden screen higher l (u / 16) (v / 16) ≡ true
-unfolding hidden
-obscured_hides screen higher l u v e =
-    let eu : 16 * (u / 16) + u % 16 ≡ u = omega arith in
-    let ev : 16 * (v / 16) + v % 16 ≡ v = omega arith in
-    any_of (λ b. any_below (λ a. obscured screen higher l (16 * (u / 16) + a) (16 * (v / 16) + b)) 16) 16 (v % 16) (omega arith)
-    (any_of (λ a. obscured screen higher l (16 * (u / 16) + a) (16 * (v / 16) + v % 16)) 16 (u % 16) (omega arith) (ap₂ (obscured screen higher l) eu ev ∙ e))
-
 -- the number of a patch, taken apart
 pub record PatchParts (c i j : ℕ) : Type 0 where
   pub client : patch_at c i j / 300 ≡ c
@@ -107,29 +94,40 @@ pub record PatchParts (c i j : ℕ) : Type 0 where
 pub patch_parts : (c i j : ℕ) → i < 20 → j < 15 → PatchParts c i j
 patch_parts c i j hi hj = record { client = omega arith; column = omega arith; row = omega arith }
 
--- The patch that an open layer's pixel is in.
-module _ (p : Plan) (c u v : ℕ) (o : OwnPixel p c u v) where
-  pub own_column : u / 16 < 20
-  own_column = omega (arith, o.across, p.narrow c)
+-- A pixel that a layer may have, and its patch.
+pub record Real (c u v : ℕ) : Type 0 where
+  pub client : c < 8
+  pub column : u < 320
+  pub row : v < 240
 
-  pub own_row : v / 16 < 15
-  own_row = omega (arith, o.down, p.short c)
+pub real_patch : (c u v : ℕ) → Real c u v → patch_at c (u / 16) (v / 16) < 2400
+real_patch c u v r = omega arith
+
+real_parts : (c u v : ℕ) → Real c u v → PatchParts c (u / 16) (v / 16)
+real_parts c u v r = patch_parts c (u / 16) (v / 16) (omega arith) (omega arith)
+
+-- The pixel of an open layer.
+module _ (p : Plan) (c u v : ℕ) (o : OwnPixel p c u v) where
+  pub real : Real c u v
+  real = record { client = open_low p c o.opened; column = omega (arith, o.across, p.narrow c); row = omega (arith, o.down, p.short c) }
 
   pub own_patch : patch_at c (u / 16) (v / 16) < 2400
-  own_patch = omega (arith, own_column, own_row, open_low p c o.opened)
+  own_patch = real_patch c u v real
 
-  own_hidden : hidden_patch p (patch_at c (u / 16) (v / 16)) ≡ hidden_in p.screen (layers_in p) c (u / 16) (v / 16)
-  own_hidden =
-      let q = patch_parts c (u / 16) (v / 16) own_column own_row in
-      λ k. hidden_in p.screen (layers_in p) (q.client k) (q.column k) (q.row k)
-
-  -- An obscured pixel's patch has a slot.
-  pub slot_held : (t : Slots) → Fits p t → seen p c u v ≡ false → has_slot t (patch_at c (u / 16) (v / 16)) ≡ true
-  slot_held t fits e =
+  -- An obscured pixel's patch is hidden.
+  pub unseen_hidden : seen p c u v ≡ false → hidden_patch p (patch_at c (u / 16) (v / 16)) ≡ true
+  unseen_hidden e =
       let l = outline c (frame_in p c) in
-      let ob : obscured p.screen (above c (layers_in p)) l u v ≡ true = and_from _ _ (and_from _ _ (lt-ltb u _ o.across) (lt-ltb v _ o.down)) (not_from_false _ e) in
-      fits (patch_at c (u / 16) (v / 16)) own_patch ∙ own_hidden ∙ hidden_open p.screen p.frames c (u / 16) (v / 16) (listed p) o.opened
-      ∙ obscured_hides p.screen (above c (layers_in p)) l u v ob
+      let q = real_parts c u v real in
+      let eu : 16 * (u / 16) + u % 16 ≡ u = omega arith in
+      let ev : 16 * (v / 16) + v % 16 ≡ v = omega arith in
+      (λ k. hidden_in p.screen (layers_in p) (q.client k) (q.column k) (q.row k)) ∙ hidden_open p.screen p.frames c (u / 16) (v / 16) (listed p) o.opened
+      ∙ obscured_hides p.screen (above c (layers_in p)) l (u / 16) (v / 16) (u % 16) (v % 16) (omega arith) (omega arith)
+      (ap₂ (obscured p.screen (above c (layers_in p)) l) eu ev ∙ and_from _ _ (and_from _ _ (lt-ltb u _ o.across) (lt-ltb v _ o.down)) (not_from_false _ e))
+
+  -- It has a slot.
+  pub slot_held : (t : Slots) → Fits p t → seen p c u v ≡ false → has_slot t (patch_at c (u / 16) (v / 16)) ≡ true
+  slot_held t fits e = fits (patch_at c (u / 16) (v / 16)) own_patch ∙ unseen_hidden e
 
   pub slot_there : (t : Slots) → Fits p t → seen p c u v ≡ false → own_slot t c u v < t.places
   slot_there t fits e = slot_low t _ (slot_held t fits e)
@@ -141,30 +139,39 @@ abbrev pub Within : (screen store : Picture) → Spot → Type 0
 Within screen store (Screen x y) = (x < screen.width) × (y < screen.height)
 Within screen store (Store x y) = (x < store.width) × (y < store.height) × (screen.depth ≤ store.depth)
 
-inside_below : (s : Size) (x y : ℕ) → inside s (pos x) (pos y) ≡ true → (x < s.width) × (y < s.height)
-inside_below s x y e = (grind (arith, ints, nat_tests), grind (arith, ints, nat_tests))
-
 -- a product that is not 0
 pub some_across : (k n m : ℕ) → k < n * m → 0 < n
 some_across k zero m h = absurd (omega (arith, zero-mul m))
 some_across k (suc n) m h = omega arith
 
--- a slot's square lies in the store
-slot_within : (store : Size) (depth k a b : ℕ) → k < slots_of store depth → a < 16 → b < 16
-    → (slot_x store.width k + a < store.width) × (slot_y store.width k + b < store.height) × (depth ≤ store.depth)
-slot_within store depth k a b h ha hb = go (ltb store.depth depth) refl h
+-- a slot of a store is a square in it
+pub record Square (store : Size) (k : ℕ) : Type 0 where
+  pub wide : 0 < store.width / 16
+  pub across : slot_x store.width k + 16 ≤ store.width
+  pub down : slot_y store.width k + 16 ≤ store.height
+
+pub square : (store : Size) (k : ℕ) → k < (store.width / 16) * (store.height / 16) → Square store k
+square store k h =
+    let n : ℕ = store.width / 16 in
+    let m : ℕ = store.height / 16 in
+    let some : 0 < n = some_across k n m h in
+    let left : k % n < n = mod-lt k some in
+    let up : k / n < m = (div-lt_iff_lt-mul some).1 (rw (mul_comm n m) at h) in
+    record { wide = some; across = omega arith; down = omega arith }
+
+-- a store with a slot is deep enough
+pub some_slot : (store : Size) (depth k : ℕ) → k < slots_of store depth → (k < (store.width / 16) * (store.height / 16)) × (depth ≤ store.depth)
+some_slot store depth k h = go (store.width / 16 * (store.height / 16)) h
   where
-    go : (t : Bool) → ltb store.depth depth ≡ t → k < cond t 0 ((store.width / 16) * (store.height / 16))
-        → (slot_x store.width k + a < store.width) × (slot_y store.width k + b < store.height) × (depth ≤ store.depth)
-    go true e l = absurd (omega arith)
-    go false e l =
-        let n = store.width / 16 in
-        let m = store.height / 16 in
-        let some = some_across k n m l in
-        let below : k / n < m = (div-lt_iff_lt-mul some).1 (subst (λ i. k < i) (mul_comm n m) l) in
-        let rest : k % n < n = mod-lt k some in
-        let q = ltb-false store.depth depth e in
-        (omega arith, omega arith, q)
+    go : (n : ℕ) → k < cond (ltb store.depth depth) 0 n → (k < n) × (depth ≤ store.depth)
+    go n l = (grind (arith, nat_tests), grind (arith, nat_tests))
+
+pub slot_within : (store : Size) (depth k a b : ℕ) → k < slots_of store depth → a < 16 → b < 16
+    → (slot_x store.width k + a < store.width) × (slot_y store.width k + b < store.height) × (depth ≤ store.depth)
+slot_within store depth k a b h ha hb =
+    let q = some_slot store depth k h in
+    let s = square store k q.0 in
+    (omega (arith, s.across), omega (arith, s.down), q.1)
 
 -- by cases on whether a pixel is visible
 pub spot_by : (width : ℕ) (p : Plan) (t : Slots) (c u v : ℕ) (P : Spot → Type 0) → (seen p c u v ≡ true → P (screen_spot p c u v)) → (seen p c u v ≡ false → P (store_spot width t c u v)) → P (spot_of width p t c u v)
@@ -178,7 +185,7 @@ spot_by width p t c u v P on off = go (seen p c u v) refl
 pub spot_within : (screen store : Picture) (p : Plan) (t : Slots) → Fitting screen store p t → (c u v : ℕ) → OwnPixel p c u v → Within screen store (spot_of store.width p t c u v)
 spot_within screen store p t f c u v o =
     spot_by store.width p t c u v (Within screen store)
-    (λ e. inside_below (sizes screen) _ _ (ap (λ (s : Size). inside s (pos (nat_abs ((frame_in p c).x +ℤ pos u))) (pos (nat_abs ((frame_in p c).y +ℤ pos v)))) (sym f.size) ∙ (seen_place p c u v e).within))
+    (λ e. place_within (sizes screen) (pos (nat_abs ((frame_in p c).x +ℤ pos u))) (pos (nat_abs ((frame_in p c).y +ℤ pos v))) (ap (λ (s : Size). inside s (pos (nat_abs ((frame_in p c).x +ℤ pos u))) (pos (nat_abs ((frame_in p c).y +ℤ pos v)))) (sym f.size) ∙ (seen_place p c u v e).within))
     (λ e. slot_within (sizes store) screen.depth (own_slot t c u v) (u % 16) (v % 16) (subst (λ n. own_slot t c u v < n) f.places (slot_there p c u v o t f.fits e)) (omega arith) (omega arith))
 
 -- ── Apart ──
@@ -206,12 +213,13 @@ same_square m n r s hr hs e = (omega arith, omega arith)
 whole : (u a : ℕ) → u / 16 ≡ a / 16 → u % 16 ≡ a % 16 → u ≡ a
 whole u a p q = omega arith
 
-store_apart : (width : ℕ) (p : Plan) (t : Slots) (c u v d a b : ℕ) → OwnPixel p c u v → OwnPixel p d a b
+-- Two pixels with one place in the store are one.
+pub store_apart : (width : ℕ) (t : Slots) (c u v d a b : ℕ) → Real c u v → Real d a b
     → has_slot t (patch_at c (u / 16) (v / 16)) ≡ true → has_slot t (patch_at d (a / 16) (b / 16)) ≡ true
     → slot_x width (own_slot t c u v) + u % 16 ≡ slot_x width (own_slot t d a b) + a % 16
     → slot_y width (own_slot t c u v) + v % 16 ≡ slot_y width (own_slot t d a b) + b % 16
     → (c ≡ d) × (u ≡ a) × (v ≡ b)
-store_apart width p t c u v d a b o o' held held' ex ey =
+store_apart width t c u v d a b o o' held held' ex ey =
     let s = own_slot t c u v in
     let r = own_slot t d a b in
     let n = width / 16 in
@@ -219,8 +227,8 @@ store_apart width p t c u v d a b o o' held held' ex ey =
     let qy = same_square (s / n) (r / n) (v % 16) (b % 16) (omega arith) (omega arith) ey in
     let same : s ≡ r = sym (div-add-mod s n) ∙ ap₂ (λ i j. n * i + j) qy.0 qx.0 ∙ div-add-mod r n in
     let one : patch_at c (u / 16) (v / 16) ≡ patch_at d (a / 16) (b / 16) = slots_apart t _ _ held held' same in
-    let k = patch_parts c (u / 16) (v / 16) (own_column p c u v o) (own_row p c u v o) in
-    let l = patch_parts d (a / 16) (b / 16) (own_column p d a b o') (own_row p d a b o') in (
+    let k = real_parts c u v o in
+    let l = real_parts d a b o' in (
       sym k.client ∙ ap (λ i. i / 300) one ∙ l.client,
       whole u a (sym k.column ∙ ap (λ i. i % 300 % 20) one ∙ l.column) qx.1,
       whole v b (sym k.row ∙ ap (λ i. i % 300 / 20) one ∙ l.row) qy.1,
@@ -246,4 +254,4 @@ spots_apart width p t fits c u v d a b o o' =
     (λ e' same. absurd (spots_differ same)))
     (λ e. spot_by width p t d a b (λ s. store_spot width t c u v ≡ s → (c ≡ d) × (u ≡ a) × (v ≡ b))
     (λ e' same. absurd (spots_differ (sym same)))
-    (λ e' same. store_apart width p t c u v d a b o o' (slot_held p c u v o t fits e) (slot_held p d a b o' t fits e') (cc) (cc)))
+    (λ e' same. store_apart width t c u v d a b (real p c u v o) (real p d a b o') (slot_held p c u v o t fits e) (slot_held p d a b o' t fits e') (cc) (cc)))

@@ -29,8 +29,7 @@ shown_here : (l : Layer) (ls : List Layer) (x y : ℤ) → covered ls x y ≡ fa
 shown_here l ls x y e k = ap₂ (λ o b. pixel_of (or_else o (cond b (Some l) None)) x y) (none_topmost ls x y e) k
 
 only_left : (a b : Bool) → (a || b) ≡ true → b ≡ false → a ≡ true
-only_left true b e n = refl
-only_left false b e n = absurd (both_ways b n e)
+only_left a b e n = grind (arith, nat_tests)
 
 -- the layer's pixel at a place that it covers
 pub record PixelAt (f : Rectangle) (x y : ℕ) (u v : ℕ) : Type 0 where

@@ -1,5 +1,6 @@
 -- Single pixels of a bitmap by unsigned coordinates, which are cut at 32,767 for its calls.
 use Rattle.std.proofs.Common.{◌≡◌, ℕ, ◌<◌, ◌≤◌, min, true, ℤ, pos, Ok, Err, Result, sym, ap, ◌∙◌, ap₂, inl, inr, ⊎_elim, arith, w16, to_z, of_z}
+use Rattle.std.proofs.lemmas.Option.{none-some}
 use Rattle.std.specs.Result.{result_unwrap_or}
 use Rattle.std.proofs.lemmas.Int.{ints, to_z_pos}
 use Rattle.std.proofs.lemmas.Bool.Decides.{nat_tests}
@@ -9,7 +10,7 @@ use Rattle.raster.specs.Blt.{inside}
 use Rattle.raster.specs.Calls.{read_at, write_at, bitmap_fault, bitmap_answer, bitmap_after}
 use Rattle.raster.specs.declared.fault.Fault.{Fault}
 use Rattle.raster.specs.declared.size.Size.{Size}
-use Rattle.raster.proofs.Accepts.{some_none, unless_ok, unless_err, read_inside, read_within, place_within, write_as_read, after_accepted}
+use Rattle.raster.proofs.Accepts.{unless_ok, unless_err, read_inside, read_within, place_within, write_as_read, after_accepted}
 use Rattle.hold.specs.Spots.{Settable}
 
 -- a coordinate as a call gets it
@@ -42,7 +43,7 @@ module _ (p : Picture) (sound : Sound p) (x y : ℕ) where
       sym (sound.outside x y
       (⊎_elim
       (λ (hx : x < p.width). ⊎_elim
-      (λ (hy : y < p.height). absurd (some_none (sym q ∙ read_inside (sizes p) (pos a) (pos b) (inside_from (sizes p) a b (omega (arith, sound.wide)) (omega (arith, sound.high))))))
+      (λ (hy : y < p.height). absurd (none-some _ (sym (read_inside (sizes p) (pos a) (pos b) (inside_from (sizes p) a b (omega (arith, sound.wide)) (omega (arith, sound.high)))) ∙ q)))
       (λ (hy : p.height ≤ y). inr hy) (cases_lt y p.height))
       (λ (hx : p.width ≤ x). inl hx) (cases_lt x p.width)))
 

@@ -32,3 +32,9 @@ module _ {S T : Type 0} (s : Ghosts S) (t : Ghosts T) where
   Draws l screen store screen' store' f =
       Suits l.layout screen store
       → Drawn l.layout.plan.now l.layout.slots.now (s.picture screen) (t.picture store) (s.picture screen') (t.picture store') l.client (f (layer_on l screen store))
+
+  -- A drawing on a layer: if it lies in the layer (`within`), the layer became f of what it was; what is no pixel of screen and store stays.
+  pub record Drawing (within : Type 0) (l : Layer) (s0 : S) (t0 : T) (s1 : S) (t1 : T) (f : Picture → Picture) : Type 0 where
+    pub drawn : within → Draws l s0 t0 s1 t1 f
+    pub screen : s.keeps s0 s1
+    pub store : t.keeps t0 t1

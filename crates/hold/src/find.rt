@@ -10,14 +10,10 @@ use crate::layer::{Layer, Layout};
 use crate::spot::Spot;
 
 /// The number of the patch that the pixel (u, v) of a client's layer is in, if there is one.
-fn patch(c: u8, u: u16, v: u16) -> Option<u16>
+pub fn patch(c: u8, u: u16, v: u16) -> Option<u16>
     ensures { SomeIff result ((c < 8) × (u < 320) × (v < 240)) (patch_at c (u / 16) (v / 16)) }
 {
-    if c < 8 && u < 320 && v < 240 {
-        Some(300 * u16::from(c) + 20 * (v / 16) + u / 16)
-    } else {
-        None
-    }
+    (c < 8 && u < 320 && v < 240).then(|| 300 * u16::from(c) + 20 * (v / 16) + u / 16)
 }
 
 /// The corner of a slot in a store of a width; none, if the store is narrower than a slot or the slot is past the last of any store.

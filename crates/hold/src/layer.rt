@@ -33,7 +33,7 @@ pub fn masked(value: u8, depth: u8) -> u8
     }
 }
 
-// Screen and store stay parameters: a struct with two `&mut` has to promise at each method that it holds the same two still.
+// Screen and store stay parameters: a struct that holds two `&mut` must promise, at each call, that both still point to the same bitmaps.
 impl Layer<'_> {
     /// The pixel (u, v).
     pub fn read_pixel<S: Bitmap, T: Bitmap>(self, screen: &S, store: &T, u: u16, v: u16) -> u8

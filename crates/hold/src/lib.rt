@@ -6,7 +6,7 @@ mod layer;
 mod single;
 mod spot;
 
-pub use find::slot_corner;
+pub use find::{patch, slot_corner};
 pub use layer::{Layer, Layout, masked};
 pub use single::{coordinate, pixel, set_pixel};
 pub use spot::Spot;

@@ -12,7 +12,7 @@ returns-clause-drawn g c =
     λ t w f.
     drawn_as a.layer screen store (g.S.Bitmap.picture c.blend.new.screen) (g.T.Bitmap.picture c.blend.new.store) _ _
     (stamp_blt a.layer screen store source t a.rule a.columns a.rows w)
-    (c.blend.ensures.drawn (stamp_within a.layer screen store source t a.rule a.columns a.rows w (g.met.B.Bitmap.sound a.source.now)) (λ _ _ _ _. tt) f)
+    (c.blend.ensures.drawn (stamp_within a.layer screen store source t a.rule a.columns a.rows w (g.met.B.Bitmap.sound a.source.now), λ _ _ _ _. tt) f)
 
 pub returns-clause-count : goal.returns-clause-count
 returns-clause-count g c =
