@@ -4,11 +4,12 @@ use Rattle.std.proofs.lemmas.Bool.Decides.{nat_tests}
 use Rattle.std.proofs.lemmas.Int.{ints}
 use Rattle.std.proofs.lemmas.Bool.{and_parts}
 use Rattle.raster.specs.Picture.{Picture, sizes}
-use Rattle.raster.specs.Blt.{holds}
+use Rattle.raster.specs.Blt.{holds, in_rectangle, inside}
 use Rattle.raster.specs.Blits.{between, spans}
 use Rattle.raster.specs.Clip.{hits, Clipped}
 use Rattle.raster.specs.declared.size.Size.{Size}
 use Rattle.raster.specs.declared.span.Span.{Span}
+use Rattle.raster.proofs.Accepts.{place_within}
 use Rattle.paper.specs.Slots.{slots_of}
 use Rattle.raster.specs.declared.rectangle.Rectangle.{Rectangle}
 use Rattle.plan.specs.declared.plan.Plan.{Plan}
@@ -52,7 +53,7 @@ passed size f w a b = on_screen size f a b && not (ahead w a b)
 
 -- a place on the screen
 pub place_below : (size : Size) (f : Rectangle) (x y : ℕ) → on_screen size f x y ≡ true → (x < size.width) × (y < size.height)
-place_below size f x y e = (grind (arith, ints, nat_tests), grind (arith, ints, nat_tests))
+place_below size f x y e = place_within size (pos x) (pos y) (and_parts (in_rectangle f.x f.y f.w f.h (pos x) (pos y)) (inside size (pos x) (pos y)) e).1
 
 module _ (size : Size) (f : Rectangle) (w : Places) where
   pub passed_none : ((a b : ℕ) → ahead w a b ≡ on_screen size f a b) → (a b : ℕ) → passed size f w a b ≡ false
@@ -93,5 +94,4 @@ pub fitting_few : (s m : Picture) (p : Plan) (t : Slots) → Fitting s m p t →
 fitting_few s m p t f = subst (λ (n : ℕ). n ≤ (m.width / 16) * (m.height / 16)) (sym f.places) (go (ltb m.depth s.depth) ((m.width / 16) * (m.height / 16)))
   where
     go : (b : Bool) (n : ℕ) → cond b 0 n ≤ n
-    go true n = omega arith
-    go false n = omega arith
+    go b n = grind (arith, nat_tests)

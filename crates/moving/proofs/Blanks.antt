@@ -3,7 +3,7 @@ use Rattle.std.proofs.Common.{rules, tests, ◌≡◌, ◌≢◌, ℕ, ◌+◌, 
 use Rattle.std.proofs.lemmas.Nat.{mul-le, pow_pos}
 use Rattle.std.proofs.lemmas.Bool.Decides.{nat_tests}
 use Rattle.std.proofs.lemmas.Int.{ints}
-use Rattle.std.proofs.lemmas.Bool.{and_parts, and_from, both_ways, cond-true, cond-false, cases_Bool, cases_lt, lt-leb, ltb-true}
+use Rattle.std.proofs.lemmas.Bool.{and_parts, and_from, both_ways, cond-true, cond-false, cases_Bool, cases_lt, lt-leb}
 use Rattle.raster.specs.Picture.{Picture, sizes, painted}
 use Rattle.raster.specs.Blt.{holds, in_rectangle, inside, concerned, everywhere, blt}
 use Rattle.raster.specs.Blits.{between}
@@ -18,7 +18,7 @@ use Rattle.slots.specs.declared.slots.Slots.{Slots}
 use Rattle.plan.specs.Plans.{patch_at}
 use Rattle.slots.specs.Tables.{slot_of, has_slot}
 use Rattle.hold.specs.Spots.{slot_x, slot_y, own_slot}
-use Rattle.hold.proofs.Places.{some_across}
+use Rattle.hold.proofs.Places.{square}
 use Rattle.moving.proofs.Areas.{and_swap}
 use Rattle.moving.specs.Phases.{on_screen, in_slot, store_x, store_y, in_store}
 
@@ -34,21 +34,6 @@ filled_zero m f =
     same : (a b : Bool) → (a && (b && true)) ≡ (a && b)
     same a b = grind (arith, nat_tests)
 
--- A slot of the store is a square in it.
-pub record Square (m : Picture) (k : ℕ) : Type 0 where
-  pub wide : 0 < m.width / 16
-  pub across : slot_x m.width k + 16 ≤ m.width
-  pub down : slot_y m.width k + 16 ≤ m.height
-
-pub square : (m : Picture) (k : ℕ) → k < (m.width / 16) * (m.height / 16) → Square m k
-square m k h =
-    let n : ℕ = m.width / 16 in
-    let j : ℕ = m.height / 16 in
-    let some : 0 < n = some_across k n j h in
-    let left : k % n < n = mod-lt k some in
-    let up : k / n < j = (div-lt_iff_lt-mul some).1 (rw (mul_comm n j) at h) in
-    record { wide = some; across = omega arith; down = omega arith }
-
 -- The slots of a store are no more than 4,096.
 pub slot_few : (m : Picture) → m.width ≤ 1024 → m.height ≤ 1024 → (k : ℕ) → k < (m.width / 16) * (m.height / 16) → k < 4096
 slot_few m w h k l = omega (arith, mul-le (m.width / 16) (m.height / 16) 64 64 (omega arith) (omega arith))
@@ -56,7 +41,7 @@ slot_few m w h k l = omega (arith, mul-le (m.width / 16) (m.height / 16) 64 64 (
 pub slot_filled : (m : Picture) (k : ℕ) (zx zy : ℤ) → k < (m.width / 16) * (m.height / 16) → zx ≡ pos (slot_x m.width k) → zy ≡ pos (slot_y m.width k)
     → bitmap_after m (fill_with 3 0 zx zy 16 16) ≡ painted m (in_slot m.width k) (λ _ _. 0)
 slot_filled m k zx zy h ex ey =
-    let q = square m k h in
+    let q = square (sizes m) k h in
     filled_zero m (record { x = zx; y = zy; w = 16; h = 16 })
     ∙ painted_same m _ (in_slot m.width k) (λ _ _. 0) (λ _ _. 0)
     (λ x y.

@@ -19,7 +19,8 @@ use Rattle.hold.proofs.Places.{covered_listed}
 use Rattle.hold.proofs.Papers.{layers_same}
 use Rattle.moving.specs.Phases.{on_screen, in_store}
 use Rattle.moving.specs.Moves.{desk_with, fresh, Stays, Worked}
-use Rattle.moving.proofs.Places.{same_client, real, real_patch}
+use Rattle.moving.proofs.Places.{same_client}
+use Rattle.hold.proofs.Places.{real, real_patch}
 use Rattle.moving.proofs.Dressed.{dressed, dress, dressed_layers, dress_keep, dress-++, dress_alter}
 
 -- ── The topmost layer, with some layers put elsewhere ──
@@ -167,7 +168,7 @@ stays_moved p q t' d h h' ew eh all = record {
   width = ew;
   height = eh;
   fixed = λ u v hu hv n.
-      let r = real p d u v h hu hv in
+      let r = real p d u v (record { opened = h; across = hu; down = hv }) in
       let k : ℕ = patch_at d (u / 16) (v / 16) in
       let ec : k / 300 ≡ d = omega arith in
       let ei : 16 * (k % 300 % 20) < (frame_in q d).w = omega arith in

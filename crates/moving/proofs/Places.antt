@@ -3,7 +3,7 @@ use Rattle.std.proofs.Common.{rules, tests, ◌≡◌, ℕ, ◌+◌, ◌*◌, �
 use native.Mathlib.Nat.{div-add-mod}
 use Rattle.std.proofs.lemmas.Int.{ints}
 use Rattle.std.proofs.lemmas.Bool.Decides.{nat_tests}
-use Rattle.std.proofs.lemmas.Bool.{and_parts, and_from, or_left, or_right, not-true, not_from_false, both_ways, eqb-true, eq-eqb, ltb-true, lt-ltb}
+use Rattle.std.proofs.lemmas.Bool.{and_parts, and_from, or_left, or_right, not-true, not_from_false, both_ways, eqb-true, eq-eqb, lt-ltb}
 use Rattle.raster.specs.Picture.{Picture, sizes}
 use Rattle.raster.specs.Blt.{holds, inside}
 use Rattle.raster.specs.declared.size.Size.{Size}
@@ -20,7 +20,9 @@ use Rattle.plan.specs.Plans.{outline, outlines, listed, layers_in, frame_in, abo
 use Rattle.plan.proofs.Sifts.{open_low}
 use Rattle.slots.proofs.Spares.{slot_low, slots_apart}
 use Rattle.hold.specs.Spots.{own_slot}
-use Rattle.hold.proofs.Places.{some_across}
+use Rattle.hold.specs.Held.{OwnPixel}
+use Rattle.hold.proofs.Places.{Real, real, store_apart, seen_place, seen_covers}
+use Rattle.hold.proofs.Shows.{pixel_at}
 use Rattle.moving.specs.declared.backing.Backing.TheVariants.{Bare, Alone, Kept}
 use Rattle.moving.specs.Phases.{store_x, store_y, in_store, kept_pixel, from_corner, backed, behind}
 
@@ -92,79 +94,6 @@ is_top (c ∷ ds) fs x y d h k n = go (λ h n. is_top ds fs x y d h k n) (eqb c 
 pub place_from : (a : ℤ) (x u : ℕ) → pos x ≡ a +ℤ pos u → from_corner a x ≡ u
 place_from a x u e = let z : pos x -ℤ a ≡ pos u = omega (arith, ints) in ap nat_abs z
 
-pub corner_place : (a : ℤ) (n x : ℕ) → holds a n (pos x) ≡ true → (from_corner a x < n) × (pos x ≡ a +ℤ pos (from_corner a x))
-corner_place a n x e = (grind (arith, ints, nat_tests), grind (arith, ints, nat_tests))
-
--- a place inside a size is one of natural numbers
-pub inside_place : (s : Size) (x y : ℤ) → inside s x y ≡ true → (x ≡ pos (nat_abs x)) × (y ≡ pos (nat_abs y))
-inside_place s x y e =
-    let q = and_parts (holds (pos 0) s.width x) (holds (pos 0) s.height y) e in
-    (back s.width x q.0, back s.height y q.1)
-  where
-    back : (n : ℕ) (z : ℤ) → holds (pos 0) n z ≡ true → z ≡ pos (nat_abs z)
-    back n z e = grind (arith, ints, nat_tests)
-
--- ── Places in the store ──
-
-sixteen : (a b i j : ℕ) → i < 16 → j < 16 → 16 * a + i ≡ 16 * b + j → (a ≡ b) × (i ≡ j)
-sixteen a b i j hi hj e = (omega arith, omega arith)
-
-below_16 : (n : ℕ) → n % 16 < 16
-below_16 n = mod-lt n (omega arith)
-
-same_patch : (c i j c' i' j' : ℕ) → i < 20 → j < 15 → i' < 20 → j' < 15 → patch_at c i j ≡ patch_at c' i' j' → (c ≡ c') × (i ≡ i') × (j ≡ j')
-same_patch c i j c' i' j' hi hj hi' hj' e = (omega arith, omega arith, omega arith)
-
--- A pixel that a layer may have.
-pub record Real (c u v : ℕ) : Type 0 where
-  pub client : c < 8
-  pub column : u < 320
-  pub row : v < 240
-
-pub real : (p : Plan) (c u v : ℕ) → has c (listed p) ≡ true → u < (frame_in p c).w → v < (frame_in p c).h → Real c u v
-real p c u v h hu hv = record { client = open_low p c h; column = omega (arith, p.narrow c); row = omega (arith, p.short c) }
-
-pub real_patch : (c u v : ℕ) → Real c u v → patch_at c (u / 16) (v / 16) < 2400
-real_patch c u v r = omega arith
-
--- Two pixels with one place in the store are one.
-pub one_place : (t : Slots) (width c u v c' u' v' : ℕ) → Real c u v → Real c' u' v' → in_store t c u v ≡ true → in_store t c' u' v' ≡ true
-    → store_x width t c u v ≡ store_x width t c' u' v' → store_y width t c u v ≡ store_y width t c' u' v' → (c ≡ c') × (u ≡ u') × (v ≡ v')
-one_place t width c u v c' u' v' r r' k k' ex ey =
-    let s : ℕ = own_slot t c u v in
-    let s' : ℕ = own_slot t c' u' v' in
-    let n : ℕ = width / 16 in
-    let a = sixteen (s % n) (s' % n) (u % 16) (u' % 16) (below_16 u) (below_16 u') ex in
-    let b = sixteen (s / n) (s' / n) (v % 16) (v' % 16) (below_16 v) (below_16 v') ey in
-    let e : s ≡ s' = sym (div-add-mod s n) ∙ ap₂ (λ q r. n * q + r) b.0 a.0 ∙ div-add-mod s' n in
-    let same = slots_apart t (patch_at c (u / 16) (v / 16)) (patch_at c' (u' / 16) (v' / 16)) k k' e in
-    let q = same_patch c (u / 16) (v / 16) c' (u' / 16) (v' / 16) (omega arith) (omega arith) (omega arith) (omega arith) same in
-    let q0 = q.0 in let q1 = q.1 in let q2 = q.2 in let a1 = a.1 in let b1 = b.1 in
-    (q0, omega arith, omega arith)
-
--- A pixel's place is one of the store, and the store is as deep as the screen.
-pub record Within (screen store : Picture) (a b : ℕ) : Type 0 where
-  pub across : a < store.width
-  pub down : b < store.height
-  pub deep : screen.depth ≤ store.depth
-
-some_slot : (deep : Bool) (s n : ℕ) → s < cond deep 0 n → (deep ≡ false) × (s < n)
-some_slot deep s n h = (grind (arith, nat_tests), grind (arith, nat_tests))
-
-pub place_within : (screen store : Picture) (t : Slots) (c u v : ℕ) → t.places ≡ slots_of (sizes store) screen.depth → in_store t c u v ≡ true
-    → Within screen store (store_x store.width t c u v) (store_y store.width t c u v)
-place_within screen store t c u v e k =
-    let s : ℕ = own_slot t c u v in
-    let n : ℕ = store.width / 16 in
-    let m : ℕ = store.height / 16 in
-    let h : s < slots_of (sizes store) screen.depth = rw e at (slot_low t (patch_at c (u / 16) (v / 16)) k) in
-    let q = some_slot (ltb store.depth screen.depth) s (n * m) h in
-    let q0 = q.0 in
-    let some : 0 < n = some_across s n m q.1 in
-    let left : s % n < n = mod-lt s some in
-    let up : s / n < m = (div-lt_iff_lt-mul some).1 (rw (mul_comm n m) at q.1) in
-    record { across = omega (arith, below_16 u); down = omega (arith, below_16 v); deep = grind (arith, nat_tests) }
-
 -- ── What shows at a place ──
 
 -- The pixel (u, v) of client d's layer is topmost at (x, y).
@@ -183,17 +112,9 @@ top_shows p x y l e =
     let d : ℕ = l.client in
     let f : Rectangle = frame_in p d in
     let own : l ≡ outline d f = t.own in
-    let q = and_parts (holds l.x l.pixels.width (pos x)) (holds l.y l.pixels.height (pos y)) t.covers in
-    let qx = corner_place l.x l.pixels.width x q.0 in
-    let qy = corner_place l.y l.pixels.height y q.1 in
-    record {
-      listed = t.listed;
-      column = subst (λ (n : ℕ). from_corner l.x x < n) (ap (λ (m : Layer). m.pixels.width) own) qx.0;
-      row = subst (λ (n : ℕ). from_corner l.y y < n) (ap (λ (m : Layer). m.pixels.height) own) qy.0;
-      across = qx.1 ∙ ap (λ (m : Layer). m.x +ℤ pos (from_corner l.x x)) own;
-      down = qy.1 ∙ ap (λ (m : Layer). m.y +ℤ pos (from_corner l.y y)) own;
-      top = e ∙ ap Some own;
-    }
+    let w = pixel_at d f x y (ap (λ (m : Layer). covers m (pos x) (pos y)) (sym own) ∙ t.covers) in
+    subst (λ (m : Layer). Shows p x y d (from_corner m.x x) (from_corner m.y y)) (sym own)
+    (record { listed = t.listed; column = w.across; row = w.down; across = sym w.column; down = sym w.row; top = e ∙ ap Some own })
 
 -- the same, where the layer is told by its client, corner and size
 pub shown_by : (p : Plan) (x y d u v : ℕ) (f : Rectangle) → topmost (layers_in p) (pos x) (pos y) ≡ Some (outline d f)
@@ -232,16 +153,11 @@ pub record SeenAt (p : Plan) (d u v : ℕ) : Type 0 where
 
 pub seen_shows : (p : Plan) (d u v : ℕ) → has d (listed p) ≡ true → u < (frame_in p d).w → v < (frame_in p d).h → seen p d u v ≡ true → SeenAt p d u v
 seen_shows p d u v h hu hv s =
-    let f : Rectangle = frame_in p d in
-    let x : ℤ = f.x +ℤ pos u in
-    let y : ℤ = f.y +ℤ pos v in
-    let q = and_parts (inside p.screen x y) (not (covered (above d (layers_in p)) x y)) s in
-    let i = inside_place p.screen x y q.0 in
-    let k : covers (outline d f) x y ≡ true = covers_pixel (outline d f) u v ∙ and_from _ _ (lt-ltb u _ hu) (lt-ltb v _ hv) in
-    let e : topmost (layers_in p) x y ≡ Some (outline d f) = is_top (listed p) p.frames x y d h k (not-true _ q.1) in
+    let o : OwnPixel p d u v = record { opened = h; across = hu; down = hv } in
+    let z = seen_place p d u v s in
     record {
-      shows = record { listed = h; column = hu; row = hv; across = sym i.0; down = sym i.1; top = ap₂ (topmost (layers_in p)) (sym i.0) (sym i.1) ∙ e };
-      on = ap₂ (inside p.screen) (sym i.0) (sym i.1) ∙ q.0;
+      shows = record { listed = h; column = hu; row = hv; across = sym z.across; down = sym z.down; top = is_top (listed p) p.frames _ _ d h (seen_covers p d u v _ _ o z) z.free };
+      on = z.within;
     }
 
 -- The place of a pixel that shows is the place where it shows.
@@ -275,13 +191,13 @@ behind_keeps width p t x y a b e = go (topmost (layers_in p) (pos x) (pos y)) re
     go None eo q = absurd (let z : ◌≡◌ {A = ℕ} 0 1 = cc in omega arith)
 
 shows_real : (p : Plan) (x y d u v : ℕ) → Shows p x y d u v → Real d u v
-shows_real p x y d u v s = real p d u v s.listed s.column s.row
+shows_real p x y d u v s = real p d u v (record { opened = s.listed; across = s.column; down = s.row })
 
 -- A pixel with the same place in the store is the one that shows.
 pub keeps_pixel : (width : ℕ) (p : Plan) (t : Slots) (x y a b d u v : ℕ) → Keeps width p t x y a b → Real d u v → in_store t d u v ≡ true → a ≡ store_x width t d u v → b ≡ store_y width t d u v
     → Shows p x y d u v
 keeps_pixel width p t x y a b d u v k r held ea eb =
-    let q = one_place t width k.client k.u k.v d u v (shows_real p x y k.client k.u k.v k.shows) r k.stored held (sym k.column ∙ ea) (sym k.row ∙ eb) in
+    let q = store_apart width t k.client k.u k.v d u v (shows_real p x y k.client k.u k.v k.shows) r k.stored held (sym k.column ∙ ea) (sym k.row ∙ eb) in
     subst (λ (n : ℕ). Shows p x y n u v) q.0 (subst (λ (n : ℕ). Shows p x y k.client n v) q.1 (subst (λ (n : ℕ). Shows p x y k.client k.u n) q.2 k.shows))
 
 -- Two places whose pixels are kept at one place of the store are one.
@@ -327,7 +243,7 @@ found p x y d a b zx zy f fx fy ex ey e ef efx efy ha hb =
     let u : ℕ = from_corner (frame_in p d).x x in
     let v : ℕ = from_corner (frame_in p d).y y in
     let s : Shows p x y d u v = client_shows p x y d (ap₂ (λ i j. client_if (topmost (layers_in p) i j)) (sym ex) (sym ey) ∙ sym e) in
-    let r = real p d u v s.listed s.column s.row in
+    let r = shows_real p x y d u v s in
     let ea : a ≡ u = ha ∙ ap₂ (λ i j. nat_abs (i -ℤ j)) ex (efx ∙ ap (λ (g : Rectangle). g.x) ef) in
     let eb : b ≡ v = hb ∙ ap₂ (λ i j. nat_abs (i -ℤ j)) ey (efy ∙ ap (λ (g : Rectangle). g.y) ef) in
     record {

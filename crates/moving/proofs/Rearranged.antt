@@ -18,34 +18,15 @@ use Rattle.slots.specs.Tables.{slot_of, has_slot}
 use Rattle.plan.proofs.Patches.{any_of, hidden_open}
 use Rattle.hold.specs.Spots.{slot_x, slot_y, screen_spot, store_spot, spot_of, look}
 use Rattle.hold.specs.Held.{Pixels, layers_with, held, Holds}
+use Rattle.hold.proofs.Places.{real, real_patch, unseen_hidden}
 use Rattle.hold.proofs.Papers.{covered_with}
 use Rattle.moving.specs.declared.backing.Backing.{Backing}
 use Rattle.moving.specs.declared.backing.Backing.TheVariants.{Bare, Alone, Kept}
 use Rattle.moving.specs.Phases.{store_x, store_y, in_store, from_corner, behind, Stowed, changes, taken, repainted}
 use Rattle.moving.specs.Moves.{desk_with, Stays, Slotted, Worked}
-use Rattle.moving.proofs.Places.{real, real_patch, place_x, place_y, Shows, SeenAt, shown_by, shows_behind, bare_behind, shows_seen, seen_shows, shows_place, top_shows, behind_keeps, keeps_pixel}
+use Rattle.moving.proofs.Places.{place_x, place_y, Shows, SeenAt, shown_by, shows_behind, bare_behind, shows_seen, seen_shows, shows_place, top_shows, behind_keeps, keeps_pixel}
 use Rattle.moving.proofs.Stows.{Small, repainted_sizes, repainted_at}
 use Rattle.moving.proofs.Dressed.{with_shown}
-
--- ── An obscured pixel's patch is hidden ──
-
-patch_hidden : (screen : Size) (higher : List Layer) (l : Layer) (u v : ℕ) → obscured screen higher l u v ≡ true → hidden screen higher l (u / 16) (v / 16) ≡ true
-unfolding hidden
-patch_hidden screen higher l u v e =
-    any_of (λ b. any_below (λ a. obscured screen higher l (16 * (u / 16) + a) (16 * (v / 16) + b)) 16) 16 (v % 16) (omega arith)
-    (any_of (λ a. obscured screen higher l (16 * (u / 16) + a) (16 * (v / 16) + v % 16)) 16 (u % 16) (omega arith) (ap₂ (obscured screen higher l) (omega arith) (omega arith) ∙ e))
-
-pub unseen_hidden : (p : Plan) (d u v : ℕ) → has d (listed p) ≡ true → u < (frame_in p d).w → v < (frame_in p d).h → seen p d u v ≡ false
-    → hidden_patch p (patch_at d (u / 16) (v / 16)) ≡ true
-unseen_hidden p d u v h hu hv s =
-    let r = real p d u v h hu hv in
-    let k : ℕ = patch_at d (u / 16) (v / 16) in
-    let ec : k / 300 ≡ d = omega arith in
-    let ei : k % 300 % 20 ≡ u / 16 = omega arith in
-    let ej : k % 300 / 20 ≡ v / 16 = omega arith in
-    (λ i. hidden_in p.screen (layers_in p) (ec i) (ei i) (ej i))
-    ∙ hidden_open p.screen p.frames d (u / 16) (v / 16) (listed p) h
-    ∙ patch_hidden p.screen (above d (layers_in p)) (outline d (frame_in p d)) u v (and_from _ _ (and_from _ _ (lt-ltb u _ hu) (lt-ltb v _ hv)) (not_from_false _ s))
 
 -- ── What is held where ──
 
@@ -107,8 +88,7 @@ screen_shows s s' m m' p q t'' px px' holds size fit bare outside =
         ∙ ap (λ b. cond b (shown (layers_with s.depth q px' (listed q)) (pos x) (pos y)) (s.at x y)) (sym (simply _ _ _ e c))
       where
         simply : (a b c : Bool) → a ≡ true → c ≡ false → (a && (b || c)) ≡ b
-        simply a true c ea ec = ap (λ z. z && true) ea
-        simply a false c ea ec = ap₂ ◌&&◌ ea ec
+        simply a b c ea ec = grind (arith, nat_tests)
 
 -- The same desk on paper, from bitmaps of the same sizes.
 pub desk_same : (s s' m m' : Picture) (q : Plan) (px : Pixels) → sizes s' ≡ sizes s → sizes m' ≡ sizes m → desk_with s' m' q px ≡ desk_with s m q px
@@ -134,9 +114,9 @@ module _ (p q : Plan) (t t' t'' : Slots) (at : ℕ → ℕ → Bool) (px : Pixel
 
       off : seen p d u v ≡ false → m'.at (store_x m.width t' d u v) (store_y m.width t' d u v) % 2 ^ s.depth ≡ px d u v
       off e =
-          let r = real p d u v h hu hv in
+          let r = real p d u v (record { opened = h; across = hu; down = hv }) in
           let n : ℕ = patch_at d (u / 16) (v / 16) in
-          let had : has_slot t n ≡ true = slots.fits n (real_patch d u v r) ∙ unseen_hidden p d u v h hu hv e in
+          let had : has_slot t n ≡ true = slots.fits n (real_patch d u v r) ∙ unseen_hidden p d u v (record { opened = h; across = hu; down = hv }) e in
           let c = stowed.others (store_x m.width t' d u v) (store_y m.width t' d u v) (λ x y i b.
           let z = keeps_pixel m.width p t' x y _ _ d u v (behind_keeps m.width p t' x y _ _ b) r k refl refl in
           both_ways (seen p d u v) e (shows_seen p x y d u v z (work.on x y i))) in
@@ -201,9 +181,9 @@ module _ (p q : Plan) (t t' t'' : Slots) (at : ℕ → ℕ → Bool) (px : Pixel
                   let y = seen_shows p d u v (stays d h).was hu' hv' c in
                   ap₂ (λ a b. s.at (nat_abs (a +ℤ pos u)) (nat_abs (b +ℤ pos v))) f.0 f.1 ∙ was_there s m p t px holds (place_x p d u) (place_y p d v) d u v y.shows y.on
               alone k (inr c) =
-                  let r = real p d u v (stays d h).was hu' hv' in
+                  let r = real p d u v (record { opened = (stays d h).was; across = hu'; down = hv' }) in
                   let n : ℕ = patch_at d (u / 16) (v / 16) in
-                  absurd (both_ways (in_store t' d u v) k (slots.given n (real_patch d u v r) (or_left _ (hidden_patch q n) (unseen_hidden p d u v (stays d h).was hu' hv' c))))
+                  absurd (both_ways (in_store t' d u v) k (slots.given n (real_patch d u v r) (or_left _ (hidden_patch q n) (unseen_hidden p d u v (record { opened = (stays d h).was; across = hu'; down = hv' }) c))))
 
       -- one that shows at another place
       off_work : seen q d u v ≡ true → at (place_x q d u) (place_y q d v) ≡ false → s'.at (place_x q d u) (place_y q d v) ≡ px d u v
@@ -218,9 +198,9 @@ module _ (p q : Plan) (t t' t'' : Slots) (at : ℕ → ℕ → Bool) (px : Pixel
       -- one that is obscured
       behind_others : seen q d u v ≡ false → held s' m' q t'' d u v ≡ px d u v
       behind_others e =
-          let r = real q d u v h hu hv in
+          let r = real q d u v (record { opened = h; across = hu; down = hv }) in
           let n : ℕ = patch_at d (u / 16) (v / 16) in
-          let hid : hidden_patch q n ≡ true = unseen_hidden q d u v h hu hv e in
+          let hid : hidden_patch q n ≡ true = unseen_hidden q d u v (record { opened = h; across = hu; down = hv }) e in
           let deep : s'.depth ≡ s.depth = ap (λ (z : Size). z.depth) (ap sizes repaints ∙ repainted_sizes m' q t' at s) in
           held_unseen s' m' q t'' d u v e
           ∙ ap₂ (λ (z : Size) k. m'.at (store_x z.width t'' d u v) (store_y z.width t'' d u v) % 2 ^ k) stowed.size deep

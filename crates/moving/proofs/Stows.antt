@@ -1,5 +1,5 @@
 -- Stowing and repainting some places and then others.
-use Rattle.std.proofs.Common.{rules, tests, ◌≡◌, ℕ, zero, suc, ◌*◌, ◌/◌, ◌^◌, ◌<◌, ◌≤◌, Bool, true, false, cond, ◌&&◌, ◌||◌, eqb, ltb, Some, None, Option, sym, refl, ap, ◌∙◌, subst, ap₂, mod-lt, arith, pow_mono}
+use Rattle.std.proofs.Common.{rules, tests, ◌≡◌, ℕ, ◌*◌, ◌/◌, ◌%◌, ◌^◌, ◌<◌, ◌≤◌, Bool, true, false, cond, ◌&&◌, ◌||◌, eqb, ltb, Some, None, Option, sym, refl, ap, ◌∙◌, subst, ap₂, mod-lt, arith, pow_mono}
 use Rattle.std.proofs.lemmas.Bool.Decides.{nat_tests}
 use Rattle.std.proofs.lemmas.Bool.{and_parts, and_from, and_left, or_left, or_right, both_ways, eqb-true, eq-eqb, cond-true, cond-false}
 use Rattle.std.proofs.lemmas.Nat.{pow_pos}
@@ -8,11 +8,14 @@ use Rattle.raster.proofs.Paints.{painted_at, painted_sizes, painted_same, painte
 use Rattle.paper.specs.Slots.{slots_of}
 use Rattle.plan.specs.declared.plan.Plan.{Plan}
 use Rattle.slots.specs.declared.slots.Slots.{Slots}
-use Rattle.hold.specs.Spots.{Settable}
+use Rattle.hold.specs.declared.spot.Spot.TheVariants.{Store}
+use Rattle.hold.specs.Spots.{Settable, own_slot}
+use Rattle.slots.proofs.Spares.{slot_low}
+use Rattle.hold.proofs.Places.{Within, slot_within, square, some_slot}
 use Rattle.moving.specs.declared.backing.Backing.{Backing}
 use Rattle.moving.specs.declared.backing.Backing.TheVariants.{Bare, Alone, Kept}
 use Rattle.moving.specs.Phases.{Fitting, store_x, just, behind, Stowed, changes, taken, repainted}
-use Rattle.moving.proofs.Places.{behind_one, Within, place_within, behind_keeps}
+use Rattle.moving.proofs.Places.{behind_one, behind_keeps}
 
 -- Values of a picture fit its depth.
 abbrev pub Small : Picture → Type 0
@@ -128,31 +131,28 @@ module _ (m : Picture) (p : Plan) (t : Slots) where
 pub wide_enough : (s m : Picture) (p : Plan) (t : Slots) (w : ℕ) → Fitting s m p t → w ≡ m.width → 0 < t.places → 16 ≤ w
 wide_enough s m p t w f e h =
     let q : 0 < slots_of (sizes m) s.depth = subst (λ (n : ℕ). 0 < n) f.places h in
-    go (ltb m.depth s.depth) (m.width / 16) (m.height / 16) q refl
-  where
-    go : (b : Bool) (i j : ℕ) → 0 < cond b 0 (i * j) → i ≡ m.width / 16 → 16 ≤ w
-    go true i j h k = absurd (omega arith)
-    go false zero j h k = absurd (omega arith)
-    go false (suc i) j h k = omega arith
+    omega (arith, (square (sizes m) 0 (some_slot (sizes m) s.depth 0 q).0).wide)
 
 module _ (s m : Picture) (p : Plan) (t : Slots) (x y w : ℕ) (fit : Fitting s m p t) (ew : w ≡ m.width) (r : Backing) (er : (0 < t.places → 16 ≤ w) → r ≡ behind w p t x y) where
   pub behind_is : behind m.width p t x y ≡ r
   behind_is = ap (λ n. behind n p t x y) (sym ew) ∙ sym (er (wide_enough s m p t w fit ew))
 
   -- the place of a pixel that is kept
-  pub kept_within : (a b : ℕ) → r ≡ Kept a b → Within s m a b
+  pub kept_within : (a b : ℕ) → r ≡ Kept a b → Within s m (Store a b)
   kept_within a b e =
       let k = behind_keeps m.width p t x y a b (behind_is ∙ e) in
-      let i = place_within s m t k.client k.u k.v fit.places k.stored in
-      subst (λ (n : ℕ). Within s m n b) (sym k.column) (subst (λ (n : ℕ). Within s m (store_x m.width t k.client k.u k.v) n) (sym k.row) i)
+      let slot : ℕ = own_slot t k.client k.u k.v in
+      let low : slot < slots_of (sizes m) s.depth = subst (λ (n : ℕ). slot < n) fit.places (slot_low t _ k.stored) in
+      let i = slot_within (sizes m) s.depth slot (k.u % 16) (k.v % 16) low (omega arith) (omega arith) in
+      subst (λ (n : ℕ). Within s m (Store n b)) (sym k.column) (subst (λ (n : ℕ). Within s m (Store (store_x m.width t k.client k.u k.v) n)) (sym k.row) i)
 
   pub stow_kept : (a b v : ℕ) (m' : Picture) → r ≡ Kept a b → Small s → v ≡ s.at x y
       → (Settable m a b v → m' ≡ with_pixel m a b v) → Stowed s p t (just x y) m m'
   stow_kept a b v m' e small ev h =
       let i = kept_within a b e in
       let less : s.at x y < 2 ^ s.depth = small x y in
-      let deep : 2 ^ s.depth ≤ 2 ^ m.depth = pow_mono i.deep in
-      stowed_one s p t x y a b m m' (behind_is ∙ e) (h (record { across = i.across; down = i.down; small = omega arith }) ∙ ap (with_pixel m a b) ev)
+      let deep : 2 ^ s.depth ≤ 2 ^ m.depth = pow_mono i.2 in
+      stowed_one s p t x y a b m m' (behind_is ∙ e) (h (record { across = i.0; down = i.1; small = omega arith }) ∙ ap (with_pixel m a b) ev)
 
   pub stow_rest : ((a b : ℕ) → r ≡ Kept a b → ⊥) → Stowed s p t (just x y) m m
   stow_rest n = stowed_skip s p t x y m (λ a b k. n a b (sym behind_is ∙ k))

@@ -1,3 +1,4 @@
 pub mod Phases
+pub mod Bitmaps
 pub mod Moves
 pub mod Laws

@@ -2,7 +2,7 @@
 ghost use Rattle.std.specs.Prelude.{◌≡◌, ◌<◌, ◌≤◌};
 ghost use Rattle.moving.specs.Phases.{kept_pixel, behind};
 
-use hold::{Layout, slot_corner};
+use hold::{Layout, coordinate, patch, slot_corner};
 use slots::Slots;
 
 /// What stands behind a screen place.
@@ -23,8 +23,10 @@ fn kept_pixel(width: u16, slots: &Slots, c: u8, u: u16, v: u16) -> Backing
     requires row { v < 240 }
     ensures { (0 < slots.now.places → 16 ≤ width) → result ≡ kept_pixel width slots.now c u v }
 {
-    let patch = 300 * u16::from(c) + 20 * (v / 16) + u / 16;
-    match slots.slot(patch).and_then(|k| slot_corner(k, width)) {
+    let corner = patch(c, u, v)
+        .and_then(|patch| slots.slot(patch))
+        .and_then(|k| slot_corner(k, width));
+    match corner {
         Some((x, y)) => Backing::Kept(x + u % 16, y + v % 16),
         None => Backing::Alone,
     }
@@ -37,7 +39,7 @@ pub(crate) fn behind(width: u16, layout: Layout<'_>, x: u16, y: u16) -> Backing
     ensures { (0 < layout.entry.slots.now.places → 16 ≤ width) → result ≡ behind width layout.entry.plan.now layout.entry.slots.now x y }
 {
     let Layout { plan, slots } = layout;
-    let (x, y) = (x as i16, y as i16);
+    let (x, y) = (coordinate(x), coordinate(y));
     match plan.top(x, y) {
         Some(d) => {
             let frame = plan.frame(d);

@@ -1,7 +1,8 @@
 //! Blanking: the slots of a client's patches are set to 0.
 ghost use Rattle.std.specs.Prelude.{◌≡◌, ◌+◌, ◌*◌, ◌/◌, ◌<◌, ◌≤◌, pos};
-ghost use Rattle.raster.specs.Picture.{sizes, painted};
+ghost use Rattle.raster.specs.Picture.{painted};
 ghost use Rattle.moving.specs.Phases.{in_slot, Blanked};
+ghost use Rattle.moving.specs.Bitmaps.{Blanks};
 
 use hold::{coordinate, slot_corner};
 use raster::{Bitmap, Rectangle, SOURCE};
@@ -9,9 +10,7 @@ use slots::Slots;
 
 /// Sets a slot of the store to 0.
 fn blank_slot<T: Bitmap>(store: &mut T, k: u16)
-    ensures keeps { T.Bitmap.keeps store.old store.new }
-    ensures size { sizes (T.Bitmap.picture store.new) ≡ sizes (T.Bitmap.picture store.old) }
-    ensures blanks { k < ((T.Bitmap.picture store.old).width / 16) * ((T.Bitmap.picture store.old).height / 16) → T.Bitmap.picture store.new ≡ painted (T.Bitmap.picture store.old) (in_slot (T.Bitmap.picture store.old).width k) (λ _ _. 0) }
+    ensures { Blanks T.Bitmap (λ m m'. k < (m.width / 16) * (m.height / 16) → m' ≡ painted m (in_slot m.width k) (λ _ _. 0)) store.old store.new }
 {
     if let Some((x, y)) = slot_corner(k, store.size().width) {
         let square = Rectangle::new(coordinate(x), coordinate(y), 16, 16);
@@ -21,9 +20,7 @@ fn blank_slot<T: Bitmap>(store: &mut T, k: u16)
 
 /// Sets the slots of a client's patches to 0.
 pub fn blank<T: Bitmap>(store: &mut T, slots: &Slots, c: u8)
-    ensures keeps { T.Bitmap.keeps store.old store.new }
-    ensures size { sizes (T.Bitmap.picture store.new) ≡ sizes (T.Bitmap.picture store.old) }
-    ensures blanks { c < 8 → slots.now.places ≤ ((T.Bitmap.picture store.old).width / 16) * ((T.Bitmap.picture store.old).height / 16) → Blanked slots.now c (T.Bitmap.picture store.old) (T.Bitmap.picture store.new) }
+    ensures { Blanks T.Bitmap (λ m m'. c < 8 → slots.now.places ≤ (m.width / 16) * (m.height / 16) → Blanked slots.now c m m') store.old store.new }
 {
     let first = 300 * u16::from(c.min(8));
     // Tried: a `for` over `filter_map(|patch| slots.slot(patch))`; the check breaks off at such a loop in a generic function.

@@ -1,7 +1,7 @@
 //! Repainting: screen places get what the store has for them.
 ghost use Rattle.std.specs.Prelude.{◌≡◌, ◌+◌, ◌<◌, ◌≤◌, if◌then◌else◌, Some, None};
-ghost use Rattle.raster.specs.Picture.{sizes};
-ghost use Rattle.moving.specs.Phases.{Fitting, on_screen, just, changes, taken, repainted};
+ghost use Rattle.moving.specs.Phases.{on_screen, just, changes, taken};
+ghost use Rattle.moving.specs.Bitmaps.{Repaints};
 
 use crate::backing::{Backing, behind};
 use crate::walk::Places;
@@ -29,9 +29,7 @@ fn repaint_pixel<S: Bitmap, T: Bitmap>(
 )
     requires across { x < (S.Bitmap.picture screen.old).width }
     requires down { y < (S.Bitmap.picture screen.old).height }
-    ensures keeps { S.Bitmap.keeps screen.old screen.new }
-    ensures size { sizes (S.Bitmap.picture screen.new) ≡ sizes (S.Bitmap.picture screen.old) }
-    ensures paints { Fitting (S.Bitmap.picture screen.old) (T.Bitmap.picture store.now) layout.entry.plan.now layout.entry.slots.now → S.Bitmap.picture screen.new ≡ repainted (T.Bitmap.picture store.now) layout.entry.plan.now layout.entry.slots.now (just x y) (S.Bitmap.picture screen.old) }
+    ensures { Repaints S.Bitmap T.Bitmap layout.entry (just x y) store.now screen.old screen.new }
 {
     let depth = screen.size().depth;
     let backing = behind(store.size().width, layout, x, y);
@@ -43,9 +41,7 @@ fn repaint_pixel<S: Bitmap, T: Bitmap>(
 /// Repaints the places of an area: each where no layer is gets 0, and each where the topmost layer's patch has a slot gets the pixel
 /// that the store has for it.
 pub fn repaint<S: Bitmap, T: Bitmap>(screen: &mut S, store: &T, layout: Layout<'_>, area: Rectangle)
-    ensures keeps { S.Bitmap.keeps screen.old screen.new }
-    ensures size { sizes (S.Bitmap.picture screen.new) ≡ sizes (S.Bitmap.picture screen.old) }
-    ensures paints { Fitting (S.Bitmap.picture screen.old) (T.Bitmap.picture store.now) layout.entry.plan.now layout.entry.slots.now → S.Bitmap.picture screen.new ≡ repainted (T.Bitmap.picture store.now) layout.entry.plan.now layout.entry.slots.now (on_screen layout.entry.plan.now.screen area) (S.Bitmap.picture screen.old) }
+    ensures { Repaints S.Bitmap T.Bitmap layout.entry (on_screen layout.entry.plan.now.screen area) store.now screen.old screen.new }
 {
     for (x, y) in Places::new(screen.size(), area) {
         repaint_pixel(screen, store, layout, x, y);

@@ -21,17 +21,24 @@ loop-x-preserved g c =
     let x = c.in-Some.x in
     let y = c.in-Some.y in
     record {
-      keeps = g.met.T.Bitmap.joins a.store.now l.store c.stow_pixel.new.store i.keeps c.stow_pixel.ensures.keeps;
-      size = c.stow_pixel.ensures.size ∙ i.size;
       within = within_more size a.area walk c.next.new.self x y i.within c.in-Some.ensures.steps;
-      stows = stow_more (g.S.Bitmap.picture a.screen.now) _ _ _ a.layout.plan.now a.layout.slots.now (passed size a.area walk) (just x y) (passed size a.area c.next.new.self) i.size
-          (passed_more size a.area walk c.next.new.self x y i.within c.in-Some.ensures.steps) i.stows c.stow_pixel.ensures.stows;
+      stowed = record {
+        keeps = g.met.T.Bitmap.joins a.store.now l.store c.stow_pixel.new.store i.stowed.keeps c.stow_pixel.ensures.keeps;
+        size = c.stow_pixel.ensures.size ∙ i.stowed.size;
+        stows = stow_more (g.S.Bitmap.picture a.screen.now) _ _ _ a.layout.plan.now a.layout.slots.now (passed size a.area walk) (just x y) (passed size a.area c.next.new.self) i.stowed.size
+            (passed_more size a.area walk c.next.new.self x y i.within c.in-Some.ensures.steps) i.stowed.stows c.stow_pixel.ensures.stows;
+      };
     }
 
-pub returns-clause-stows : goal.returns-clause-stows
-returns-clause-stows g c f =
+pub returns : goal.returns
+returns g c =
     let a = c.args in
     let l = c.loop-x in
     let size : Size = sizes (g.S.Bitmap.picture c.args.screen.now) in
-    stowed_as (g.S.Bitmap.picture a.screen.now) a.layout.plan.now a.layout.slots.now (passed size a.area l.x-iterator) (on_screen a.layout.plan.now.screen a.area) _ _
-    (λ x y. ap (λ (z : Size). on_screen z a.area x y) f.sized ∙ passed_all size a.area l.x-iterator c.in-None.ensures.steps x y) (l.invariant.stows f)
+    record {
+      keeps = l.invariant.stowed.keeps;
+      size = l.invariant.stowed.size;
+      stows = λ f.
+          stowed_as (g.S.Bitmap.picture a.screen.now) a.layout.plan.now a.layout.slots.now (passed size a.area l.x-iterator) (on_screen a.layout.plan.now.screen a.area) _ _
+          (λ x y. ap (λ (z : Size). on_screen z a.area x y) f.sized ∙ passed_all size a.area l.x-iterator c.in-None.ensures.steps x y) (l.invariant.stowed.stows f);
+    }
