@@ -17,7 +17,7 @@ use Rattle.paper.proofs.View.{answer_accepted, after_accepted}
 use Rattle.hold.specs.Held.{Drawn, layer_held, paper_of}
 use Rattle.draw.specs.Areas.{BlitWithin}
 use Rattle.desk.specs.declared.book.Book.{Book}
-use Rattle.desk.specs.Carried.{carry}
+use Rattle.desk.specs.Carried.{own_fault}
 use Rattle.desk.specs.Desks.{same_size, made_for, on_pictures, state_on}
 use Rattle.desk.proofs.Fits.{paper_fits, open_listed, open_pane}
 use Rattle.desk.proofs.Counted.{used_is}
@@ -74,8 +74,8 @@ module _ (screen store : Picture) (b : Book) (c : ℕ) where
     drawing_fault {call = call} s = drawing_checks s ∙ own_check screen store b c ok call
 
     pub drawing_refused : (k : Call) (call : BitmapCall) → SameDrawing c k call → (f : Fault) → bitmap_fault (sizes (pane c (on_pictures screen store b))) call ≡ Some f
-        → Does (state_on screen store b) k (Err (carry c f)) (state_on screen store b)
-    drawing_refused k call s f e = refused_does screen store b k (carry c f) (drawing_fault s ∙ ap (carried c) e)
+        → Does (state_on screen store b) k (Err (own_fault c f)) (state_on screen store b)
+    drawing_refused k call s f e = refused_does screen store b k (own_fault c f) (drawing_fault s ∙ ap (carried c) e)
 
     -- the blit lies in the layer
     pub blit_within : (call : BitmapCall) (blit : Blit) → Performs (sizes (pane c (on_pictures screen store b))) call blit → BlitWithin b.plan c blit

@@ -1,5 +1,5 @@
 -- A desk whose book was made for its bitmaps, and one whose book was not.
-use Rattle.std.proofs.Common.{◌≡◌, ℕ, Bool, true, false, cond, not, eqb, ℤ, is_err, None, Ok, Err, Option, sym, refl, ap, ◌∙◌, ⊎_elim}
+use Rattle.std.proofs.Common.{◌≡◌, ℕ, Bool, true, false, cond, not, eqb, ℤ, is_ok, None, Ok, Err, Option, Result, sym, refl, ap, ◌∙◌, ⊎_elim}
 use Rattle.std.proofs.lemmas.Bool.{and_parts, eqb-true, cond-true, cond-false, cases_Bool, both_ways}
 use Rattle.raster.specs.Picture.{Picture, sizes}
 use Rattle.raster.specs.declared.size.Size.{Size}
@@ -9,7 +9,7 @@ use Rattle.raster.specs.Blt.{inside}
 use Rattle.raster.specs.Calls.{unless, refuse_if, bitmap_fault, read_at}
 use Rattle.raster.specs.declared.fault.Fault.{Fault}
 use Rattle.raster.specs.declared.refusal.Refusal.TheVariants.{OutsideBitmap}
-use Rattle.paper.specs.Desk.{client_if, because, top_answer, unnamed}
+use Rattle.paper.specs.Desk.{client_if, top_answer, unnamed}
 use Rattle.paper.proofs.Layers.{not_some}
 use Rattle.paper.specs.Slots.{slots_of}
 use Rattle.plan.specs.Frames.{has}
@@ -97,8 +97,10 @@ module _ (screen store : Picture) (b : Book) where
     pub top_other : inside (sizes screen) x y ≡ true → made_for screen store b ≡ false → top_answer (on_pictures screen store b) x y ≡ Ok None
     top_other e t = top_on e ∙ ap (λ (d : paper.Desk). Ok (client_if (topmost d.layers x y))) (paper_other t)
 
--- what the check of a place tells
-pub place_test : (s : Size) (x y : ℤ) (a : ℕ × ℕ) → is_err (unless (bitmap_fault s (read_at x y)) a) ≡ not (inside s x y)
-place_test s x y a =
-    ⊎_elim (λ (e : inside s x y ≡ true). ap (λ (o : Option Fault). is_err (unless o a)) (read_inside s x y e) ∙ sym (ap not e))
-    (λ (e : inside s x y ≡ false). ap (λ (o : Option Fault). is_err (unless o a)) (read_outside s x y e) ∙ sym (ap not e)) (cases_Bool (inside s x y))
+-- what the check of a place tells, asked of the screen's size
+pub place_test : (r s : Size) (x y : ℤ) (a : ℕ × ℕ) (p : Result (ℕ × ℕ) Fault) → p ≡ unless (bitmap_fault r (read_at x y)) a → r ≡ s → is_ok p ≡ inside s x y
+place_test r s x y a p e es = ap is_ok e ∙ by (inside r x y) refl ∙ ap (λ (z : Size). inside z x y) es
+  where
+    by : (t : Bool) → inside r x y ≡ t → is_ok (unless (bitmap_fault r (read_at x y)) a) ≡ inside r x y
+    by true t = ap (λ (o : Option Fault). is_ok (unless o a)) (read_inside r x y t) ∙ sym t
+    by false t = ap (λ (o : Option Fault). is_ok (unless o a)) (read_outside r x y t) ∙ sym t

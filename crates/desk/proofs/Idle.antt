@@ -1,5 +1,6 @@
 -- What stands is what the book says, and a refused call leaves it.
 use Rattle.std.proofs.Common.{◌≡◌, ℕ, Bool, true, false, cond, ◌||◌, pos, Some, Err, sym, refl, ap, ◌∙◌, subst, ⊎_elim}
+use Rattle.std.proofs.Math.Bool.{or_self}
 use Rattle.std.proofs.lemmas.Bool.{cases_Bool, and_parts, and_right}
 use Rattle.raster.specs.Picture.{Picture, sizes, painted}
 use Rattle.raster.specs.Blt.{inside}
@@ -27,10 +28,6 @@ painted_same_value p t v e = same_picture (painted p t v) p refl refl refl (λ x
     by true m n h = h refl
     by false m n h = refl
 
-either : (a : Bool) → (a || a) ≡ true → a ≡ true
-either true e = refl
-either false e = e
-
 module _ (screen store : Picture) (b : Book) where
   -- the screen shows what the desk on paper shows, wherever a layer covers it
   pub screen_idle : screen ≡ screen_after screen (on_pictures screen store b) (on_pictures screen store b)
@@ -44,7 +41,7 @@ module _ (screen store : Picture) (b : Book) where
       (λ x y h.
       let q = and_parts (inside (sizes screen) (pos x) (pos y)) _ h in
       paper_shows screen store b.plan b.slots (fitting screen store b t) x y q.0
-      (sym (paper_covered screen store b.plan b.slots (pos x) (pos y)) ∙ either (covered d.layers (pos x) (pos y)) q.1))))
+      (sym (paper_covered screen store b.plan b.slots (pos x) (pos y)) ∙ sym (or_self (covered d.layers (pos x) (pos y))) ∙ q.1))))
       (λ (t : made_for screen store b ≡ false).
       sym (ap (λ (e : paper.Desk). screen_after screen e e) (paper_other screen store b t) ∙ painted_none screen _ _ (λ x y. and_right (inside (sizes screen) (pos x) (pos y)) false refl)))
       (cases_Bool (made_for screen store b))

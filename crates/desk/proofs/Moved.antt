@@ -25,13 +25,13 @@ use Rattle.moving.proofs.Orders.{moved_paper}
 use Rattle.moving.proofs.Outcomes.{moving_laws_lem}
 use Rattle.desk.specs.declared.book.Book.{Book}
 use Rattle.desk.specs.Desks.{made_for, on_pictures, state_on}
-use Rattle.desk.specs.Moves.{Settled, Carries}
+use Rattle.desk.specs.Moves.{Settled, Rearranges}
 use Rattle.desk.proofs.Answered.{check_refused, check_open, check_rest}
 use Rattle.desk.proofs.Checks.{one_check}
 use Rattle.desk.proofs.Fits.{open_listed}
 use Rattle.desk.proofs.Idle.{refused_does}
 use Rattle.desk.proofs.Reordered.{repaint_fits}
-use Rattle.desk.proofs.Settles.{sized, begins, too_few, enough, settles}
+use Rattle.desk.proofs.Settles.{stowed_one, sized, begins, too_few, enough, settles}
 
 -- at the corner that is passed
 pub at_corner_passed : (P : ℤ → ℤ → Type 0) {x x' y y' : ℤ} → x' ≡ x → y' ≡ y → P x' y' → P x y
@@ -74,7 +74,7 @@ module _ (s m : Picture) (b : Book) (c : ℕ) (x y : ℤ) where
         (plan_laws_lem.moved b.plan q c 0 still) few ∙ ap Some (sym e))
 
     pub move_does : (s' m' : Picture) (b' : Book) (t' : Slots) → Sound s → passing (needs b.plan q (Some c)) ≤ b.slots.places → Supplied b.slots (needs b.plan q (Some c)) t'
-        → Settled q t' b' → Carries b.plan q t' (frame_in b.plan c) (frame_in q c) s m s' m' → Does (state_on s m b) (move_layer c x y) (Ok 0) (state_on s' m' b')
+        → Settled q t' b' → Rearranges b.plan q t' (frame_in b.plan c ∷ frame_in q c ∷ []) s m s' m' → Does (state_on s m b) (move_layer c x y) (Ok 0) (state_on s' m' b')
     move_does s' m' b' t' sound many supplied settled moves =
         let p = b.plan in
         let fit = sized s m b listed_now.0 t' supplied.places in
@@ -84,6 +84,6 @@ module _ (s m : Picture) (b : Book) (c : ℕ) (x y : ℤ) where
         (moving_laws_lem.moved s m (repainted m' q t' (on_screen q.screen (frame_in p c)) s) stowed.0 s' m' p q b.slots t' b'.slots c x y
         (begins s m b listed_now.0 q t' b'.slots sound way) listed_now.1 a others (own listed_now.1)
         (moving_laws_lem.all_supplied p q b.slots t' c supplied)
-        stowed.1 stowed.2 refl (moves.repaints (repaint_fits s m m' p q t' moves.store_size a.screen fit)))
+        stowed.1 (stowed_one s stowed.0 m' p t' (frame_in q c) stowed.2) refl (moves.repaints (repaint_fits s m m' p q t' moves.store_size a.screen fit)))
         (last_check ∙ enough s m b listed_now.0 q (held s m p b.slots) (move_layer c x y) (eqb c) (Some c) (moved_leads s m p q b.slots c x y a.layers) a.screen (plan_laws_lem.moved p q c 0 still) many)
         refl

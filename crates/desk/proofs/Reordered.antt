@@ -33,7 +33,7 @@ use Rattle.desk.proofs.Answered.{check_refused, check_open, check_rest}
 use Rattle.desk.proofs.Checks.{one_check}
 use Rattle.desk.proofs.Fits.{open_listed}
 use Rattle.desk.proofs.Idle.{refused_does}
-use Rattle.desk.proofs.Settles.{sized, begins, too_few, enough, settles}
+use Rattle.desk.proofs.Settles.{stowed_one, sized, begins, too_few, enough, settles}
 
 -- ── What raising and lowering have in common ──
 
@@ -95,14 +95,14 @@ module _ (s m : Picture) (b : Book) (c : ℕ) where
           ∙ ap Some (ap (because TooFewSlots) (order_client b.plan q c r) ∙ sym e))
 
       pub order_does : (s' m' : Picture) (b' : Book) (t' : Slots) → Sound s → passing (needs b.plan q None) ≤ b.slots.places → Supplied b.slots (needs b.plan q None) t'
-          → Settled q t' b' → Rearranges b.plan q t' (frame_in b.plan c) s m s' m' → Does (state_on s m b) call (Ok 0) (state_on s' m' b')
+          → Settled q t' b' → Rearranges b.plan q t' (frame_in b.plan c ∷ []) s m s' m' → Does (state_on s m b) call (Ok 0) (state_on s' m' b')
       order_does s' m' b' t' sound many supplied settled moves =
           let p = b.plan in
           let fit = sized s m b listed_now.0 t' supplied.places in
           let way = (moving_laws_lem.supplied p q b.slots t' b'.slots None b.held supplied settled.slots).0 in
           settles s m b listed_now.0 s' m' b' q t' call moves.screen_size moves.store_size (order_screen p q c r) supplied.places settled
           (order_leaves p q c s m s' m' b.slots t' b'.slots (begins s m b listed_now.0 q t' b'.slots sound way) listed_now.1 r
-          (moves.stowed fit) (moves.repaints (repaint_fits s m m' p q t' moves.store_size (order_screen p q c r) fit)))
+          (stowed_one s m m' p t' (frame_in p c) (moves.stowed fit)) (moves.repaints (repaint_fits s m m' p q t' moves.store_size (order_screen p q c r) fit)))
           (last_check ∙ enough s m b listed_now.0 q (held s m p b.slots) call (λ _. false) None (order_leads p q c s m b.slots r) (order_screen p q c r)
           (plan_laws_lem.unmoved p q 0 (order_still p q c r)) many)
           (order_value p q c (on_pictures s m b) r)
@@ -115,7 +115,7 @@ module _ (s m : Picture) (b : Book) (c : ℕ) where
 
   pub close_does : ◌≡◌ {A = Result (Unit {0}) DeskFault} (Ok tt) (unless (first_fault (no_client c ∷ not_open c (on_pictures s m b) ∷ [])) tt)
       → (s' m' : Picture) (b' : Book) (q : Plan) → Sound s → Arranged b.plan q (without c (layers_in b.plan)) (λ d. has d (listed b.plan) && not (eqb c d)) → SameFrames b.plan q
-      → Settled q b.slots b' → Rearranges b.plan q b.slots (frame_in b.plan c) s m s' m' → Does (state_on s m b) (close_layer c) (Ok 0) (state_on s' m' b')
+      → Settled q b.slots b' → Rearranges b.plan q b.slots (frame_in b.plan c ∷ []) s m s' m' → Does (state_on s m b) (close_layer c) (Ok 0) (state_on s' m' b')
   close_does ok s' m' b' q sound a f settled moves =
       let p = b.plan in
       let now = open_listed s m b c (check_open s m b c ok) in
@@ -123,5 +123,5 @@ module _ (s m : Picture) (b : Book) (c : ℕ) where
       let way = (moving_laws_lem.none_supplied p q b.slots b'.slots c b.held a.screen a.layers settled.slots).0 in
       settles s m b now.0 s' m' b' q b.slots (close_layer c) moves.screen_size moves.store_size a.screen refl settled
       (moving_laws_lem.closed s m s' m' p q b.slots b.slots b'.slots c (begins s m b now.0 q b.slots b'.slots sound way) now.1 a f
-      (moves.stowed fit) (moves.repaints (repaint_fits s m m' p q b.slots moves.store_size a.screen fit)))
+      (stowed_one s m m' p b.slots (frame_in p c) (moves.stowed fit)) (moves.repaints (repaint_fits s m m' p q b.slots moves.store_size a.screen fit)))
       (check_rest s m b c ok []) refl

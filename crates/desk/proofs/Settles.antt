@@ -1,5 +1,5 @@
 -- Going over to another arrangement: from the pictures of screen and store to the desk on paper.
-use Rattle.std.proofs.Common.{◌≡◌, ℕ, ◌<◌, ◌≤◌, Bool, true, ◌&&◌, eqb, ltb, Some, None, Ok, sym, refl, ap, ◌∙◌, subst, ap₂, Option}
+use Rattle.std.proofs.Common.{◌≡◌, ℕ, ◌<◌, ◌≤◌, Bool, true, ◌&&◌, eqb, ltb, [], ◌∷◌, Some, None, Ok, sym, refl, ap, ◌∙◌, subst, ap₂, Option}
 use Rattle.std.proofs.lemmas.Bool.{lt-ltb, le-ltb}
 use Rattle.raster.specs.Picture.{Picture, sizes, Sound}
 use Rattle.raster.specs.Calls.{refuse_if}
@@ -11,6 +11,7 @@ use Rattle.paper.specs.Slots.{slots_of, slots_needed}
 use Rattle.paper.specs.Desk.{Call, client_of, because, change, accepted_value, fault_of, too_few_slots}
 use Rattle.paper.specs.Run.{Becomes, Does}
 use Rattle.paper.proofs.View.{answer_accepted, after_accepted}
+use Rattle.raster.specs.declared.rectangle.Rectangle.{Rectangle}
 use Rattle.plan.specs.declared.plan.Plan.{Plan}
 use Rattle.slots.specs.declared.slots.Slots.{Slots}
 use Rattle.plan.specs.Plans.{listed, needs}
@@ -23,10 +24,14 @@ use Rattle.moving.specs.Moves.{desk_with, Slotted}
 use Rattle.moving.specs.Laws.{Begins, Leaves}
 use Rattle.desk.specs.declared.book.Book.{Book}
 use Rattle.desk.specs.Desks.{same_size, made_for, on_pictures, state_on}
-use Rattle.desk.specs.Moves.{Settled}
+use Rattle.desk.specs.Moves.{Settled, StowedAll}
 use Rattle.desk.proofs.Counted.{used_is}
 use Rattle.desk.proofs.Drawn.{made_same}
 use Rattle.desk.proofs.Fits.{fitting, paper_fits}
+
+-- what was stowed of one area
+pub stowed_one : (s m m' : Picture) (p : Plan) (t : Slots) (f : Rectangle) → StowedAll s p t (f ∷ []) m m' → phases.Stowed s p t (phases.on_screen p.screen f) m m'
+stowed_one s m m' p t f h = subst (phases.Stowed s p t (phases.on_screen p.screen f) m) (sym h.2) h.1
 
 module _ (s m : Picture) (b : Book) (fits : made_for s m b ≡ true) where
   -- where a call begins, and with the tables on the way

@@ -1,5 +1,6 @@
 -- Stamping on a layer: from the pictures of screen and store to the desk on paper.
 use Rattle.std.proofs.Common.{◌≡◌, ℕ, true, false, ltb, List, [], ◌∷◌, Some, None, Ok, Option, Result, sym, refl, ap, ◌∙◌, subst}
+use Rattle.std.proofs.lemmas.Option.{none-some}
 use Rattle.raster.specs.Picture.{Picture, sizes}
 use Rattle.raster.specs.Blt.{from_picture, count, blt}
 use Rattle.raster.specs.declared.transfer.Transfer.{Transfer}
@@ -9,7 +10,6 @@ use Rattle.raster.specs.declared.refusal.Refusal.TheVariants.{RuleAboveFifteen, 
 use Rattle.raster.specs.declared.rule.Rule.{Rule}
 use Rattle.raster.specs.declared.size.Size.{Size}
 use Rattle.raster.specs.declared.span.Span.{Span}
-use Rattle.raster.proofs.Accepts.{some_none}
 use Rattle.paper.specs.declared.DeskFault.{DeskFault}
 use Rattle.paper.specs.Layers as paper
 use Rattle.paper.specs.Layers.{is_open, pane}
@@ -26,8 +26,8 @@ use Rattle.desk.proofs.Drawn.{drawn_does}
 use Rattle.desk.proofs.Fits.{paper_fits, paper_size, open_listed, open_pane}
 
 first_two : {F : Type 0} (a b : Option F) (rest : List (Option F)) → first_fault (a ∷ b ∷ rest) ≡ None → first_fault (a ∷ b ∷ []) ≡ None
-first_two (Some x) b rest e = absurd (some_none e)
-first_two None (Some y) rest e = absurd (some_none e)
+first_two (Some x) b rest e = absurd (none-some _ (sym e))
+first_two None (Some y) rest e = absurd (none-some _ (sym e))
 first_two None None rest e = refl
 
 module _ (screen store : Picture) (b : Book) (c : ℕ) where

@@ -8,8 +8,8 @@ use Rattle.paper.specs.Layers as paper
 use Rattle.paper.specs.Desk.{because, no_client, not_open, no_rule}
 
 -- A bitmap's fault, carried whole.
-abbrev pub carry : ℕ → Fault → DeskFault
-carry c f = record { refusal = f.refusal; client = Some c; bitmap = Some f }
+abbrev pub own_fault : ℕ → Fault → DeskFault
+own_fault c f = record { refusal = f.refusal; client = Some c; bitmap = Some f }
 
 -- The checks of a stamp by a rule from a bitmap of a depth.
 abbrev pub stamp_checks : (client : ℕ) → paper.Desk → (rule depth : ℕ) → List (Option DeskFault)

@@ -1,12 +1,14 @@
 -- The desk on paper that a desk stands for, and what of it no call changes.
 use Rattle.std.specs.Prelude.{ℕ, Bool, cond, ◌&&◌, ◌==◌}
 use Rattle.raster.specs.Picture.{Picture, sizes}
+use Rattle.raster.specs.Calls.{Unaltered}
 use Rattle.raster.specs.declared.bitmap.Bitmap.{Ghosts}
 use Rattle.raster.specs.declared.size.Size.{Size}
 use Rattle.paper.specs.Layers as paper
 use Rattle.paper.specs.Layers.{new_desk}
 use Rattle.paper.specs.Slots.{slots_of}
-use Rattle.paper.specs.Run.{State}
+use Rattle.paper.specs.Desk.{Call, Answer}
+use Rattle.paper.specs.Run.{State, Does}
 use Rattle.slots.specs.Tables.{has_slot}
 use Rattle.plan.specs.Counts.{passing}
 use Rattle.hold.specs.Held.{paper_of}
@@ -45,3 +47,10 @@ module _ {S T : Type 0} (s : Ghosts S) (t : Ghosts T) where
   pub record Keeps (d e : Desk S T) : Type 0 where
     pub screen : s.keeps d.screen e.screen
     pub store : t.keeps d.store e.store
+
+  -- What a call does: its answer, the desk on paper after it, the screen and the slots in use; what is no pixel of screen or store stays; and
+  -- a refused call leaves the very same desk.
+  pub record Performed (old : Desk S T) (call : Call) (answer : Answer) (new : Desk S T) : Type 0 where
+    pub does : Does (state_of old) call answer (state_of new)
+    pub rest : Keeps old new
+    pub refused : Unaltered answer old new

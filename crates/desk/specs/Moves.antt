@@ -1,5 +1,5 @@
 -- How a desk goes over to another arrangement.
-use Rattle.std.specs.Prelude.{◌≡◌, ℕ, ◌<◌, min, true, [], ◌++◌, Ok, Err, Result}
+use Rattle.std.specs.Prelude.{◌≡◌, ℕ, ◌<◌, min, true, List, [], ◌∷◌, ◌++◌, Ok, Err, Result}
 use Rattle.raster.specs.Picture.{Picture, sizes}
 use Rattle.raster.specs.declared.size.Size.{Size}
 use Rattle.paper.specs.declared.DeskFault.{DeskFault}
@@ -36,20 +36,22 @@ pub record Fresh (screen : Size) (places : ℕ) (b : Book) : Type 0 where
   pub size : b.plan.screen ≡ screen
   pub slots : b.slots.places ≡ min places 4096
 
--- What showed in an area of the screen was stowed by the arrangement p, and the area repainted by q, with the slots of t.
-pub record Rearranges (p q : Plan) (t : Slots) (area : Rectangle) (screen store screen' store' : Picture) : Type 0 where
-  pub screen_size : sizes screen' ≡ sizes screen
-  pub store_size : sizes store' ≡ sizes store
-  pub stowed : Fitting screen store p t → Stowed screen p t (on_screen p.screen area) store store'
-  pub repaints : Fitting screen store' q t → screen' ≡ repainted store' q t (on_screen q.screen area) screen
+-- The store after what showed in some areas of the screen was stowed, one area after the other.
+abbrev pub StowedAll : (screen : Picture) → Plan → Slots → List Rectangle → (before after : Picture) → Type 0
+StowedAll screen p t [] before after = after ≡ before
+StowedAll screen p t (f ∷ fs) before after = (between : Picture) × (Stowed screen p t (on_screen p.screen f) before between) × (StowedAll screen p t fs between after)
 
--- The same of two areas, one after the other.
-pub record Carries (p q : Plan) (t : Slots) (old new : Rectangle) (screen store screen' store' : Picture) : Type 0 where
+-- The screen after some areas of it were repainted, one after the other.
+abbrev pub repainted_all : (store : Picture) → Plan → Slots → List Rectangle → Picture → Picture
+repainted_all store q t [] screen = screen
+repainted_all store q t (f ∷ fs) screen = repainted_all store q t fs (repainted store q t (on_screen q.screen f) screen)
+
+-- What showed in some areas of the screen was stowed by the arrangement p, and the areas repainted by q, with the slots of t.
+pub record Rearranges (p q : Plan) (t : Slots) (areas : List Rectangle) (screen store screen' store' : Picture) : Type 0 where
   pub screen_size : sizes screen' ≡ sizes screen
   pub store_size : sizes store' ≡ sizes store
-  pub stowed : Fitting screen store p t
-      → (between : Picture) × (Stowed screen p t (on_screen p.screen old) store between) × (Stowed screen p t (on_screen p.screen new) between store')
-  pub repaints : Fitting screen store' q t → screen' ≡ repainted store' q t (on_screen q.screen new) (repainted store' q t (on_screen q.screen old) screen)
+  pub stowed : Fitting screen store p t → StowedAll screen p t areas store store'
+  pub repaints : Fitting screen store' q t → screen' ≡ repainted_all store' q t areas screen
 
 -- The calls that put the layers in another order.
 pub data Reorders (p q : Plan) (c : ℕ) : Call → Type 0 where

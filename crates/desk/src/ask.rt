@@ -4,23 +4,13 @@ ghost use Rattle.raster.specs.Calls.{unless, first_fault};
 ghost use Rattle.raster.specs.Picture.{sizes};
 ghost use Rattle.paper.specs.Layers.{is_open, pane};
 ghost use Rattle.paper.specs.Slots.{slots_of};
-ghost use Rattle.paper.specs.Desk.{because, no_client, not_open, top_answer};
+ghost use Rattle.paper.specs.Desk.{no_client, not_open, top_answer};
 ghost use Rattle.desk.specs.Desks.{made_for, on_paper};
 
 use crate::desk::Desk;
+use crate::faults::{because, check_client, unnamed};
 use paper::DeskFault;
 use raster::{Bitmap, Refusal, Size};
-
-/// A fault of the desk's own, of a call that names a client.
-pub(crate) fn because(refusal: Refusal, client: u8) -> DeskFault
-    ensures { result ≡ because refusal client }
-{
-    DeskFault {
-        refusal,
-        client: Some(client),
-        bitmap: None,
-    }
-}
 
 /// How many slots a store has for a screen of a depth.
 pub(crate) fn slots_there(store: Size, depth: u8) -> u16
@@ -68,9 +58,7 @@ impl<S: Bitmap, T: Bitmap> Desk<S, T> {
     pub(crate) fn check_open(&self, c: u8) -> Result<(), DeskFault>
         ensures { result ≡ unless (first_fault (no_client c ∷ not_open c (on_paper S.Bitmap T.Bitmap self.now) ∷ [])) tt }
     {
-        if c > 7 {
-            return Err(because(Refusal::ClientAboveSeven, c));
-        }
+        check_client(c)?;
         if !self.is_open(c) {
             return Err(because(Refusal::NotOpen, c));
         }
@@ -86,14 +74,14 @@ impl<S: Bitmap, T: Bitmap> Desk<S, T> {
             return Size {
                 width: 0,
                 height: 0,
-                depth: screen.depth,
+                ..screen
             };
         }
         let frame = self.book.plan.frame(c);
         Size {
             width: frame.w,
             height: frame.h,
-            depth: screen.depth,
+            ..screen
         }
     }
 
@@ -102,13 +90,9 @@ impl<S: Bitmap, T: Bitmap> Desk<S, T> {
         ensures { result ≡ top_answer (on_paper S.Bitmap T.Bitmap self.now) x y }
     {
         let screen = self.screen.size();
-        if screen.read_place(x, y).is_err() {
-            return Err(DeskFault {
-                refusal: Refusal::OutsideBitmap,
-                client: None,
-                bitmap: None,
-            });
-        }
+        screen
+            .read_place(x, y)
+            .map_err(|_| unnamed(Refusal::OutsideBitmap))?;
         if !self.suits(screen) {
             return Ok(None);
         }

@@ -6,10 +6,10 @@ ghost use Rattle.paper.specs.Layers.{pane};
 ghost use Rattle.paper.specs.Desk.{Call, fill_layer, scroll_layer};
 ghost use Rattle.paper.specs.Run.{Does};
 ghost use Rattle.paper.proofs.Draws.{SameDrawing};
-ghost use Rattle.desk.specs.Desks.{on_paper, state_of, Keeps};
+ghost use Rattle.desk.specs.Desks.{on_paper, state_of, Keeps, Performed};
 
 use crate::desk::Desk;
-use crate::read::carried;
+use crate::faults::carried;
 use draw::paint;
 use paper::DeskFault;
 use raster::{Bitmap, Blit, Fault, Rectangle, Transfer};
@@ -29,9 +29,7 @@ impl<S: Bitmap, T: Bitmap> Desk<S, T> {
 
     /// BitBlt onto a rectangle of the client's layer from a source that has the value `v` everywhere; the count of pixels concerned.
     pub fn fill(&mut self, c: u8, rule: u8, v: u8, area: Rectangle) -> Result<u32, DeskFault>
-        ensures does { Does (state_of S.Bitmap T.Bitmap self.old) (fill_layer c rule v area.x area.y area.w area.h) result (state_of S.Bitmap T.Bitmap self.new) }
-        ensures rest { Keeps S.Bitmap T.Bitmap self.old self.new }
-        ensures refused { Unaltered result self.old self.new }
+        ensures { Performed S.Bitmap T.Bitmap self.old (fill_layer c rule v area.x area.y area.w area.h) result self.new }
     {
         let prepared = Blit::fill(self.pane_size(c), rule, v, area);
         self.perform(c, prepared)
@@ -39,9 +37,7 @@ impl<S: Bitmap, T: Bitmap> Desk<S, T> {
 
     /// BitBlt within the client's layer; the count of pixels concerned.
     pub fn scroll(&mut self, c: u8, transfer: Transfer) -> Result<u32, DeskFault>
-        ensures does { Does (state_of S.Bitmap T.Bitmap self.old) (scroll_layer c transfer) result (state_of S.Bitmap T.Bitmap self.new) }
-        ensures rest { Keeps S.Bitmap T.Bitmap self.old self.new }
-        ensures refused { Unaltered result self.old self.new }
+        ensures { Performed S.Bitmap T.Bitmap self.old (scroll_layer c transfer) result self.new }
     {
         let prepared = Blit::scroll(self.pane_size(c), transfer);
         self.perform(c, prepared)

@@ -1,18 +1,18 @@
 //! Making a desk, opening a layer, and taking a desk apart.
 ghost use Rattle.std.specs.Prelude.{◌≡◌, true, [], ◌∷◌};
-ghost use Rattle.raster.specs.Calls.{unless, first_fault, Unaltered};
+ghost use Rattle.raster.specs.Calls.{unless, first_fault};
 ghost use Rattle.raster.specs.Picture.{sizes};
 ghost use Rattle.raster.specs.declared.size.Size.{Size};
 ghost use Rattle.paper.specs.Slots.{slots_of};
 ghost use Rattle.paper.specs.Desk.{no_client, already_open, beyond_size, open_layer, slots_answer};
-ghost use Rattle.paper.specs.Run.{new_state, Does};
-ghost use Rattle.desk.specs.Desks.{made_for, on_pictures, on_paper, state_of, Keeps};
+ghost use Rattle.paper.specs.Run.{new_state};
+ghost use Rattle.desk.specs.Desks.{made_for, on_pictures, on_paper, state_of, Performed};
 ghost use Rattle.desk.specs.Moves.{done, Fresh};
 
-use crate::ask::{because, slots_there};
+use crate::ask::slots_there;
 use crate::book::Book;
 use crate::desk::Desk;
-use hold::Layout;
+use crate::faults::{because, check_client};
 use moving::{blank, stow};
 use paper::DeskFault;
 use plan::Plan;
@@ -72,9 +72,7 @@ impl<S: Bitmap, T: Bitmap> Desk<S, T> {
     fn check_new(&self, c: u8, w: u16, h: u16) -> Result<(), DeskFault>
         ensures { result ≡ unless (first_fault (no_client c ∷ already_open c (on_paper S.Bitmap T.Bitmap self.now) ∷ beyond_size c w h ∷ [])) tt }
     {
-        if c > 7 {
-            return Err(because(Refusal::ClientAboveSeven, c));
-        }
+        check_client(c)?;
         if self.is_open(c) {
             return Err(because(Refusal::AlreadyOpen, c));
         }
@@ -98,22 +96,17 @@ impl<S: Bitmap, T: Bitmap> Desk<S, T> {
 
     /// Opens a layer of the client on top of all others, 0 everywhere.
     pub fn open(&mut self, c: u8, frame: Rectangle) -> Result<(), DeskFault>
-        ensures does { Does (state_of S.Bitmap T.Bitmap self.old) (open_layer c frame.x frame.y frame.w frame.h) (done result) (state_of S.Bitmap T.Bitmap self.new) }
-        ensures rest { Keeps S.Bitmap T.Bitmap self.old self.new }
-        ensures refused { Unaltered result self.old self.new }
+        ensures { Performed S.Bitmap T.Bitmap self.old (open_layer c frame.x frame.y frame.w frame.h) (done result) self.new }
     {
         self.check_new(c, frame.w, frame.h)?;
         let book = self.current();
         let after = book.plan.opened(c, frame);
-        let slots = book.slots_for(c, &after, None)?;
-        let layout = Layout {
-            plan: &book.plan,
-            slots: &slots,
-        };
-        stow(&self.screen, &mut self.store, layout, frame);
-        blank(&mut self.store, &slots, c);
+        let passage = book.passage(c, after, None)?;
+        let before = passage.before(&book.plan);
+        stow(&self.screen, &mut self.store, before, frame);
+        blank(&mut self.store, &passage.slots, c);
         let _ = self.screen.fill(SOURCE, 0, frame);
-        self.book = Book::settled(after, &slots);
+        self.book = passage.settled();
         Ok(())
     }
 }

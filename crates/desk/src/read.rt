@@ -1,24 +1,12 @@
 //! Reading a layer.
-ghost use Rattle.std.specs.Prelude.{◌≡◌, Ok, Err, MatchResult};
+ghost use Rattle.std.specs.Prelude.{◌≡◌};
 ghost use Rattle.paper.specs.Desk.{answer, read_layer};
 ghost use Rattle.desk.specs.Desks.{on_paper};
-ghost use Rattle.raster.specs.declared.fault.Fault.{Fault};
-ghost use Rattle.desk.specs.Carried.{carry};
 
 use crate::desk::Desk;
+use crate::faults::carried;
 use paper::DeskFault;
-use raster::{Bitmap, Fault};
-
-/// What the client's own bitmap answers, its fault carried whole.
-pub(crate) fn carried<A: Copy>(client: u8, answer: Result<A, Fault>) -> Result<A, DeskFault>
-    ensures { MatchResult result (λ a. answer ≡ Ok a) (λ d. (f : Fault) × (answer ≡ Err f) × (d ≡ carry client f)) }
-{
-    answer.map_err(|fault| DeskFault {
-        refusal: fault.refusal,
-        client: Some(client),
-        bitmap: Some(fault),
-    })
-}
+use raster::Bitmap;
 
 impl<S: Bitmap, T: Bitmap> Desk<S, T> {
     /// The pixel (x, y) of the client's layer, counted from its corner.

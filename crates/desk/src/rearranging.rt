@@ -1,94 +1,85 @@
-//! Layers closed, raised and lowered.
-ghost use Rattle.std.specs.Prelude.{◌≡◌, ◌<◌, ◌≤◌, MatchResult};
+//! Going over to another arrangement: layers closed, raised and lowered.
+ghost use Rattle.std.specs.Prelude.{◌≡◌};
+ghost use Rattle.raster.specs.Picture.{sizes};
 ghost use Rattle.raster.specs.Calls.{Unaltered};
-ghost use Rattle.raster.specs.declared.refusal.Refusal.TheVariants.{TooFewSlots};
-ghost use Rattle.paper.specs.Desk.{Call, because, close_layer, raise_layer, lower_layer};
+ghost use Rattle.paper.specs.Desk.{Call, close_layer, raise_layer, lower_layer};
 ghost use Rattle.paper.specs.Run.{Does};
-ghost use Rattle.plan.specs.Plans.{needs};
-ghost use Rattle.plan.specs.Counts.{passing};
-ghost use Rattle.slots.specs.Allots.{Supplied};
-ghost use Rattle.desk.specs.Desks.{state_of, Keeps};
-ghost use Rattle.desk.specs.Moves.{done, Serves, Settled, Rearranges, Reorders};
+ghost use Rattle.moving.specs.Phases.{Fitting};
+ghost use Rattle.desk.specs.Desks.{state_of, Keeps, Performed};
+ghost use Rattle.desk.specs.Moves.{done, Settled, StowedAll, repainted_all, Rearranges, Reorders};
 
-use crate::ask::because;
 use crate::book::Book;
 use crate::desk::Desk;
+use crate::passage::Passage;
 use hold::Layout;
 use moving::{repaint, stow};
 use paper::DeskFault;
-use plan::{Change, Plan};
-use raster::{Bitmap, Rectangle, Refusal};
-use slots::Slots;
+use plan::Plan;
+use raster::{Bitmap, Rectangle};
 
-impl Book {
-    /// The table of slots for the time in which the arrangement becomes another, or the client's fault that there are too few.
-    pub(crate) fn slots_for(
-        &self,
-        c: u8,
-        after: &Plan,
-        moved: Option<u8>,
-    ) -> Result<Slots, DeskFault>
-        ensures { MatchResult result (λ t. (passing (needs self.now.plan after.now moved) ≤ self.now.slots.places) × Supplied self.now.slots (needs self.now.plan after.now moved) t) (λ f. (self.now.slots.places < passing (needs self.now.plan after.now moved)) × (f ≡ because TooFewSlots c)) }
-    {
-        let change = Change {
-            before: &self.plan,
-            after,
-            moved,
-        };
-        self.slots
-            .allot(change)
-            .ok_or(because(Refusal::TooFewSlots, c))
+/// Stows what shows in some areas.
+fn stow_all<S: Bitmap, T: Bitmap>(
+    screen: &S,
+    store: &mut T,
+    layout: Layout<'_>,
+    areas: &[Rectangle],
+)
+    ensures keeps { T.Bitmap.keeps store.old store.new }
+    ensures size { sizes (T.Bitmap.picture store.new) ≡ sizes (T.Bitmap.picture store.old) }
+    ensures stows { Fitting (S.Bitmap.picture screen.now) (T.Bitmap.picture store.old) layout.entry.plan.now layout.entry.slots.now → StowedAll (S.Bitmap.picture screen.now) layout.entry.plan.now layout.entry.slots.now areas.now (T.Bitmap.picture store.old) (T.Bitmap.picture store.new) }
+{
+    for area in areas {
+        stow(screen, store, layout, *area);
     }
+}
 
-    /// The book of an arrangement, with the slots of the patches that are hidden in it.
-    pub(crate) fn settled(plan: Plan, slots: &Slots) -> Book
-        requires { Serves plan slots.now }
-        ensures { Settled plan slots.now result }
-    {
-        Book {
-            plan,
-            slots: slots.released(&plan),
-        }
+/// Repaints some areas.
+fn repaint_all<S: Bitmap, T: Bitmap>(
+    screen: &mut S,
+    store: &T,
+    layout: Layout<'_>,
+    areas: &[Rectangle],
+)
+    ensures keeps { S.Bitmap.keeps screen.old screen.new }
+    ensures size { sizes (S.Bitmap.picture screen.new) ≡ sizes (S.Bitmap.picture screen.old) }
+    ensures paints { Fitting (S.Bitmap.picture screen.old) (T.Bitmap.picture store.now) layout.entry.plan.now layout.entry.slots.now → S.Bitmap.picture screen.new ≡ repainted_all (T.Bitmap.picture store.now) layout.entry.plan.now layout.entry.slots.now areas.now (S.Bitmap.picture screen.old) }
+{
+    for area in areas {
+        repaint(screen, store, layout, *area);
     }
 }
 
 impl<S: Bitmap, T: Bitmap> Desk<S, T> {
-    /// Goes over to another arrangement: what shows in an area is stowed, and the area is repainted.
-    fn rearrange(&mut self, after: Plan, slots: &Slots, area: Rectangle)
-        requires { Serves after slots.now }
-        ensures book { Settled after slots.now self.new.book }
-        ensures pixels { Rearranges self.old.book.plan after slots.now area (S.Bitmap.picture self.old.screen) (T.Bitmap.picture self.old.store) (S.Bitmap.picture self.new.screen) (T.Bitmap.picture self.new.store) }
+    /// Goes over to another arrangement: what shows in some areas is stowed, and the areas are repainted.
+    pub(crate) fn rearrange(&mut self, passage: Passage, areas: &[Rectangle])
+        ensures book { Settled passage.after passage.slots self.new.book }
+        ensures pixels { Rearranges self.old.book.plan passage.after passage.slots areas.now (S.Bitmap.picture self.old.screen) (T.Bitmap.picture self.old.store) (S.Bitmap.picture self.new.screen) (T.Bitmap.picture self.new.store) }
         ensures rest { Keeps S.Bitmap T.Bitmap self.old self.new }
     {
         let Book { plan, .. } = &self.book;
-        let before = Layout { plan, slots };
-        let later = Layout {
-            plan: &after,
-            slots,
-        };
-        stow(&self.screen, &mut self.store, before, area);
-        repaint(&mut self.screen, &self.store, later, area);
-        self.book = Book::settled(after, slots);
+        let before = passage.before(plan);
+        let later = passage.later();
+        stow_all(&self.screen, &mut self.store, before, areas);
+        repaint_all(&mut self.screen, &self.store, later, areas);
+        self.book = passage.settled();
     }
 
     /// Puts the client's layer where another order has it.
     fn reorder(&mut self, c: u8, after: Plan) -> Result<(), DeskFault>
         ensures does { (k : Call) → Reorders self.old.book.plan after c k → Does (state_of S.Bitmap T.Bitmap self.old) k (done result) (state_of S.Bitmap T.Bitmap self.new) }
         ensures rest { Keeps S.Bitmap T.Bitmap self.old self.new }
-        ensures refused { Unaltered result self.old self.new }
+        ensures refused { Unaltered (done result) self.old self.new }
     {
         self.check_open(c)?;
-        let slots = self.book.slots_for(c, &after, None)?;
+        let passage = self.book.passage(c, after, None)?;
         let area = self.book.plan.frame(c);
-        self.rearrange(after, &slots, area);
+        self.rearrange(passage, &[area]);
         Ok(())
     }
 
     /// Puts the client's layer on top.
     pub fn raise(&mut self, c: u8) -> Result<(), DeskFault>
-        ensures does { Does (state_of S.Bitmap T.Bitmap self.old) (raise_layer c) (done result) (state_of S.Bitmap T.Bitmap self.new) }
-        ensures rest { Keeps S.Bitmap T.Bitmap self.old self.new }
-        ensures refused { Unaltered result self.old self.new }
+        ensures { Performed S.Bitmap T.Bitmap self.old (raise_layer c) (done result) self.new }
     {
         let after = self.book.plan.raised(c);
         self.reorder(c, after)
@@ -96,9 +87,7 @@ impl<S: Bitmap, T: Bitmap> Desk<S, T> {
 
     /// Puts the client's layer below all others.
     pub fn lower(&mut self, c: u8) -> Result<(), DeskFault>
-        ensures does { Does (state_of S.Bitmap T.Bitmap self.old) (lower_layer c) (done result) (state_of S.Bitmap T.Bitmap self.new) }
-        ensures rest { Keeps S.Bitmap T.Bitmap self.old self.new }
-        ensures refused { Unaltered result self.old self.new }
+        ensures { Performed S.Bitmap T.Bitmap self.old (lower_layer c) (done result) self.new }
     {
         let after = self.book.plan.lowered(c);
         self.reorder(c, after)
@@ -106,15 +95,13 @@ impl<S: Bitmap, T: Bitmap> Desk<S, T> {
 
     /// Takes the client's layer away; what it covered shows.
     pub fn close(&mut self, c: u8) -> Result<(), DeskFault>
-        ensures does { Does (state_of S.Bitmap T.Bitmap self.old) (close_layer c) (done result) (state_of S.Bitmap T.Bitmap self.new) }
-        ensures rest { Keeps S.Bitmap T.Bitmap self.old self.new }
-        ensures refused { Unaltered result self.old self.new }
+        ensures { Performed S.Bitmap T.Bitmap self.old (close_layer c) (done result) self.new }
     {
         self.check_open(c)?;
         let after = self.book.plan.closed(c);
         let slots = self.book.slots;
         let area = self.book.plan.frame(c);
-        self.rearrange(after, &slots, area);
+        self.rearrange(Passage { after, slots }, &[area]);
         Ok(())
     }
 }

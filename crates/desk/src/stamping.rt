@@ -1,13 +1,12 @@
 //! Stamping another bitmap on a layer.
 ghost use Rattle.std.specs.Prelude.{◌≡◌, Some, None, MatchResult};
-ghost use Rattle.raster.specs.Calls.{Unaltered, first_fault};
+ghost use Rattle.raster.specs.Calls.{first_fault};
 ghost use Rattle.paper.specs.Desk.{stamp_layer};
-ghost use Rattle.paper.specs.Run.{Does};
-ghost use Rattle.desk.specs.Desks.{on_paper, state_of, Keeps};
+ghost use Rattle.desk.specs.Desks.{on_paper, Performed};
 ghost use Rattle.desk.specs.Carried.{stamp_checks};
 
-use crate::ask::because;
 use crate::desk::Desk;
+use crate::faults::because;
 use draw::stamp;
 use paper::DeskFault;
 use raster::{Bitmap, Refusal, Rule, Span, Transfer};
@@ -32,9 +31,7 @@ impl<S: Bitmap, T: Bitmap> Desk<S, T> {
         source: &B,
         transfer: Transfer,
     ) -> Result<u32, DeskFault>
-        ensures does { Does (state_of S.Bitmap T.Bitmap self.old) (stamp_layer c transfer (B.Bitmap.picture source.now)) result (state_of S.Bitmap T.Bitmap self.new) }
-        ensures rest { Keeps S.Bitmap T.Bitmap self.old self.new }
-        ensures refused { Unaltered result self.old self.new }
+        ensures { Performed S.Bitmap T.Bitmap self.old (stamp_layer c transfer (B.Bitmap.picture source.now)) result self.new }
     {
         let from = source.size();
         let Transfer {

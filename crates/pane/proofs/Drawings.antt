@@ -1,5 +1,6 @@
 -- A client's calls on its layer, and the same calls of its pane.
 use Rattle.std.proofs.Common.{◌≡◌, ℕ, ◌^◌, ◌<◌, true, false, ◌&&◌, eqb, ltb, leb, ℤ, pos, nat_abs, is_some, None, Ok, Result, sym, refl, ap, ◌∙◌, ⊎_elim, arith}
+use Rattle.std.proofs.lemmas.Option.{none-some}
 use Rattle.std.proofs.lemmas.Int.{ints}
 use Rattle.std.proofs.lemmas.Bool.{cases_Bool, both_ways, le-ltb, lt-leb}
 use Rattle.std.proofs.lemmas.Bool.Decides.{nat_tests}
@@ -8,7 +9,7 @@ use Rattle.raster.specs.Blt.{inside, in_rectangle, concerned, blt}
 use Rattle.raster.specs.Calls.{BitmapCall, read_at, write_at, fill_with, unless, bitmap_fault, bitmap_after}
 use Rattle.raster.specs.declared.fault.Fault.{Fault}
 use Rattle.raster.specs.declared.size.Size.{Size}
-use Rattle.raster.proofs.Accepts.{some_none, unless_ok, read_within, write_as_read, fill_accepted, after_accepted}
+use Rattle.raster.proofs.Accepts.{unless_ok, read_within, write_as_read, fill_accepted, after_accepted}
 use Rattle.raster.proofs.Called.{read_found, write_found}
 use Rattle.raster.proofs.Lawful.{bitmap_laws_lem}
 use Rattle.raster.proofs.Paints.{painted_same}
@@ -28,9 +29,9 @@ drawing_repaints d c {k = k} s = after_either (λ z. z ≡ repaint c (pane c z) 
   where
     changed : {k : Call} {call : BitmapCall} → SameDrawing c k call → fault_of d k ≡ None → change d k ≡ repaint c (pane c (change d k)) d
     changed fills ok =
-        ap (λ q. repaint c q d) (painted_pane c d _ (λ none. let f = shut_checks c d _ (ap is_some none) in absurd (some_none (sym f.1 ∙ ok))))
+        ap (λ q. repaint c q d) (painted_pane c d _ (λ none. let f = shut_checks c d _ (ap is_some none) in absurd (none-some _ (sym ok ∙ f.1))))
     changed scrolls ok =
-        ap (λ q. repaint c q d) (painted_pane c d _ (λ none. let f = shut_checks c d _ (ap is_some none) in absurd (some_none (sym f.1 ∙ ok))))
+        ap (λ q. repaint c q d) (painted_pane c d _ (λ none. let f = shut_checks c d _ (ap is_some none) in absurd (none-some _ (sym ok ∙ f.1))))
 
 module _ (screen store : Picture) (b : Book) (c : ℕ) where
   -- a client with an open layer is 7 at most

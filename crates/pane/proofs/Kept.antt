@@ -1,8 +1,11 @@
 -- What drawing on a pane leaves.
-use Rattle.std.proofs.Common.{◌≡◌, sym, refl, ap, ◌∙◌, subst}
+use Rattle.std.proofs.Common.{◌≡◌, ℕ, Result, sym, refl, ap, ◌∙◌, subst}
+use Rattle.std.specs.Result.{IsErrAnd}
 use Rattle.raster.specs.Picture.{sizes}
-use Rattle.raster.specs.Calls.{BitmapCall, bitmap_after}
+use Rattle.raster.specs.Calls.{BitmapCall, bitmap_after, Called}
+use Rattle.raster.specs.declared.fault.Fault.{Fault}
 use Rattle.raster.specs.declared.bitmap.Bitmap.{Ghosts}
+use Rattle.raster.proofs.Called.{Refused, call_refused}
 use Rattle.raster.proofs.Lawful.{bitmap_laws_lem}
 use Rattle.paper.specs.Layers as paper
 use Rattle.paper.specs.Layers.{covered, pane, screen_after}
@@ -13,12 +16,18 @@ use Rattle.desk.specs.declared.desk.Desk.{Desk}
 use Rattle.desk.specs.Desks.{on_paper, state_of, Keeps}
 use Rattle.pane.specs.declared.pane.Pane.{Pane}
 use Rattle.pane.specs.Panes.{picture_of, PaneKept}
+use Rattle.pane.specs.Joins.{pane_same}
 use Rattle.pane.proofs.Drawings.{drawing_repaints, shut_above}
 
 module _ {S T : Type 0} (s : Ghosts S) (t : Ghosts T) where
   -- the pane on the desk that a call leaves
   abbrev pub on_desk : Pane S T → Desk S T → Pane S T
   on_desk p d = record { desk = d; client = p.client }
+
+  -- a refused call leaves the pane as it was
+  pub pane_refused : ((a : S) → s.keeps a a) → ((a : T) → t.keeps a a) → (p : Pane S T) (call : BitmapCall) (r : Result ℕ Fault) (f : Fault) → IsErrAnd r (λ e. e ≡ f)
+      → Refused (picture_of s t p) call f → Called (picture_of s t) (PaneKept s t) p call r p
+  pane_refused ss ts p call r f h q = call_refused (picture_of s t) (PaneKept s t) p (pane_same s t ss ts p) call r f h q
 
   -- a drawing on the desk is one on the pane
   module _ (p : Pane S T) (d : Desk S T) {k : Call} {call : BitmapCall} {got : Answer} (same : SameDrawing p.client k call)

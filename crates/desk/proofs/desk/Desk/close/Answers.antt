@@ -1,4 +1,4 @@
-use Rattle.std.proofs.Common.{refl, ◌∙◌, subst}
+use Rattle.std.proofs.Common.{[], ◌∷◌, refl, ◌∙◌, subst}
 use Rattle.std.proofs.lemmas.Result.{err_from_is_err_and}
 use Rattle.raster.specs.declared.rectangle.Rectangle.{Rectangle}
 use Rattle.moving.proofs.Tables.{fewer}
@@ -20,11 +20,11 @@ returns-in_err-check_open g c =
       refused = refl;
     })
 
-pub rearrange-requires : goal.rearrange-requires
-rearrange-requires g c =
+pub invariant_of-rearrange : goal.invariant_of-rearrange
+invariant_of-rearrange g c =
     let b = c.args.self.now.book in
     let a = c.closed-after.ensures.arranged in
-    λ k l h. b.held k l ∙ fewer b.plan c.closed-after.result c.args.c a.screen a.layers k h
+    record { serves = λ k l h. b.held k l ∙ fewer b.plan c.closed-after.result c.args.c a.screen a.layers k h }
 
 pub returns : goal.returns
 returns g c =
@@ -36,7 +36,7 @@ returns g c =
     record {
       does = close_does s t d.book a.c c.in_ok-check_open.ensures (g.S.Bitmap.picture e.screen) (g.T.Bitmap.picture e.store) e.book c.closed-after.result
           (g.met.S.Bitmap.sound d.screen) c.closed-after.ensures.arranged c.closed-after.ensures.frames c.rearrange.ensures.book
-          (subst (λ (z : Rectangle). Rearranges d.book.plan c.closed-after.result d.book.slots z s t (g.S.Bitmap.picture e.screen) (g.T.Bitmap.picture e.store)) c.frame-area.ensures c.rearrange.ensures.pixels);
+          (subst (λ (z : Rectangle). Rearranges d.book.plan c.closed-after.result d.book.slots (z ∷ []) s t (g.S.Bitmap.picture e.screen) (g.T.Bitmap.picture e.store)) c.frame-area.ensures c.rearrange.ensures.pixels);
       rest = c.rearrange.ensures.rest;
       refused = tt;
     }

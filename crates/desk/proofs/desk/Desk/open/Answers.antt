@@ -22,8 +22,8 @@ returns-in_err-check_new g c =
       refused = refl;
     })
 
-pub returns-in_err-slots : goal.returns-in_err-slots
-returns-in_err-slots g c =
+pub returns-in_err-passage : goal.returns-in_err-passage
+returns-in_err-passage g c =
     let a = c.args in
     let d = a.self.now in
     let s = g.S.Bitmap.picture d.screen in
@@ -34,11 +34,11 @@ returns-in_err-slots g c =
     let fits = c.current-book.ensures.fits in
     let same = c.current-book.ensures.same in
     let is = can s t d.book a.c f b fits same ok in
-    let err = err_from_is_err_and c.from_residual-in_err-slots.result c.from_residual-in_err-slots.ensures.1 in
+    let err = err_from_is_err_and c.from_residual-in_err-passage.result c.from_residual-in_err-passage.ensures.1 in
     rw (err.1, err.2)
     (record {
       does = (open_few s t d.book a.c f b fits same ok c.opened-after.result (c.opened-after.ensures.arranged is) c.opened-after.ensures.frames
-          _ c.in_err-slots.ensures.0 c.in_err-slots.ensures.1);
+          _ c.in_err-passage.ensures.0 c.in_err-passage.ensures.1);
       rest = record { screen = g.met.S.Bitmap.same d.screen; store = g.met.T.Bitmap.same d.store };
       refused = refl;
     })
@@ -55,15 +55,15 @@ returns g c =
     let fits = c.current-book.ensures.fits in
     let same = c.current-book.ensures.same in
     let is = can s t d.book a.c f b fits same ok in
-    let slots = c.in_ok-slots.slots in
-    let way = c.in_ok-slots.ensures in
+    let slots = c.in_ok-passage.passage.slots in
+    let way = c.in_ok-passage.ensures in
     let t₁ = g.T.Bitmap.picture c.stow.new.store in
-    let fit = sized s t b fits slots way.1.places in
+    let fit = sized s t b fits slots way.2.places in
     let zeros : g.S.Bitmap.picture c.fill.new.self ≡ bitmap_after s (fill_with 3 0 f.x f.y f.w f.h) = c.fill.ensures.after in
     record {
       does = (open_does s t d.book a.c f b fits same ok c.opened-after.result (c.opened-after.ensures.arranged is) c.opened-after.ensures.frames
-          t₁ (g.S.Bitmap.picture c.fill.new.self) (g.T.Bitmap.picture c.blank.new.store) c.settled-self.result slots (g.met.S.Bitmap.sound d.screen) way.0 way.1
-          (c.opened-after.ensures.own is) (ap sizes zeros ∙ fill_sizes s f) (c.blank.ensures.size ∙ c.stow.ensures.size) c.settled-self.ensures (c.stow.ensures.stows fit)
+          t₁ (g.S.Bitmap.picture c.fill.new.self) (g.T.Bitmap.picture c.blank.new.store) c.settled-self.result slots (g.met.S.Bitmap.sound d.screen) way.1 way.2
+          (c.opened-after.ensures.own is) (ap sizes zeros ∙ fill_sizes s f) (c.blank.ensures.size ∙ c.stow.ensures.size) (simp way.0 at c.settled-self.ensures) ((simp (c.before-before.ensures.plan, c.before-before.ensures.slots) at c.stow.ensures.stows) fit)
           (c.blank.ensures.blanks (low s t d.book a.c f b fits same ok) (fitting_few s t₁ b.plan slots (fitting_same s s t t₁ b.plan slots refl c.stow.ensures.size fit))) zeros);
       rest = record {
         screen = c.fill.ensures.rest;

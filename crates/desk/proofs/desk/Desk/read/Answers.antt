@@ -1,4 +1,4 @@
-use Rattle.std.proofs.Common.{[], ◌∷◌, nat_abs, Err, sym, ap, ◌∙◌}
+use Rattle.std.proofs.Common.{[], ◌∷◌, nat_abs, sym, ap, ◌∙◌}
 use Rattle.std.proofs.lemmas.Result.{err_from_is_err_and}
 use Rattle.std.proofs.lemmas.Int.{to_z-of_z}
 use Rattle.raster.specs.Calls.{read_at, unless, bitmap_fault}
@@ -6,7 +6,7 @@ use Rattle.raster.specs.declared.size.Size.{Size}
 use Rattle.raster.proofs.Accepts.{unless_err}
 use Rattle.paper.specs.Desk.{carried, own_bitmap, read_layer}
 use Rattle.paper.proofs.View.{answer_refused}
-use Rattle.desk.specs.Carried.{carry}
+use Rattle.desk.specs.Carried.{own_fault}
 use Rattle.desk.specs.Desks.{on_pictures}
 use Rattle.desk.proofs.Answered.{check_refused, own_check, own_pixel}
 use Rattle.desk.proofs.desk.Desk.read.Goals as goal
@@ -32,7 +32,7 @@ returns-in_err-u g c =
     let e = c.in_err-u.ensures in
     let refused = unless_err (bitmap_fault c.pane_size.result (read_at a.x a.y)) (nat_abs a.x, nat_abs a.y) e.0 (sym e.1 ∙ simp to_z-of_z at c.read_place.ensures) in
     rw (p.1, p.2, e.2)
-    (sym (answer_refused (on_pictures s t d.book) (read_layer a.c a.x a.y) (carry a.c e.0)
+    (sym (answer_refused (on_pictures s t d.book) (read_layer a.c a.x a.y) (own_fault a.c e.0)
     (own_check s t d.book a.c c.in_ok-check_open.ensures (read_at a.x a.y)
     ∙ ap (λ (z : Size). carried a.c (bitmap_fault z (read_at a.x a.y))) (sym c.pane_size.ensures) ∙ ap (carried a.c) refused)))
 

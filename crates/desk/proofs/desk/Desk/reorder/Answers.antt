@@ -1,4 +1,4 @@
-use Rattle.std.proofs.Common.{refl, subst}
+use Rattle.std.proofs.Common.{[], ◌∷◌, refl, subst}
 use Rattle.std.proofs.lemmas.Result.{err_from_is_err_and}
 use Rattle.raster.specs.declared.rectangle.Rectangle.{Rectangle}
 use Rattle.desk.specs.Moves.{Rearranges}
@@ -19,16 +19,16 @@ returns-in_err-check_open g c =
       refused = refl;
     })
 
-pub returns-in_err-slots : goal.returns-in_err-slots
-returns-in_err-slots g c =
+pub returns-in_err-passage : goal.returns-in_err-passage
+returns-in_err-passage g c =
     let a = c.args in
     let d = a.self.now in
     let s = g.S.Bitmap.picture d.screen in
     let t = g.T.Bitmap.picture d.store in
-    let p = err_from_is_err_and c.from_residual-in_err-slots.result c.from_residual-in_err-slots.ensures.1 in
+    let p = err_from_is_err_and c.from_residual-in_err-passage.result c.from_residual-in_err-passage.ensures.1 in
     rw (p.1, p.2)
     (record {
-      does = λ k r. order_few s t d.book a.c a.after k r c.in_ok-check_open.ensures _ c.in_err-slots.ensures.0 c.in_err-slots.ensures.1;
+      does = λ k r. order_few s t d.book a.c a.after k r c.in_ok-check_open.ensures _ c.in_err-passage.ensures.0 c.in_err-passage.ensures.1;
       rest = record { screen = g.met.S.Bitmap.same d.screen; store = g.met.T.Bitmap.same d.store };
       refused = refl;
     })
@@ -40,13 +40,13 @@ returns g c =
     let s = g.S.Bitmap.picture d.screen in
     let t = g.T.Bitmap.picture d.store in
     let e = c.rearrange.new.self in
-    let slots = c.in_ok-slots.slots in
-    let way = c.in_ok-slots.ensures in
+    let slots = c.in_ok-passage.passage.slots in
+    let way = c.in_ok-passage.ensures in
     record {
       does = λ k r.
           order_does s t d.book a.c a.after k r c.in_ok-check_open.ensures (g.S.Bitmap.picture e.screen) (g.T.Bitmap.picture e.store) e.book slots
-          (g.met.S.Bitmap.sound d.screen) way.0 way.1 c.rearrange.ensures.book
-          (subst (λ (z : Rectangle). Rearranges d.book.plan a.after slots z s t (g.S.Bitmap.picture e.screen) (g.T.Bitmap.picture e.store)) c.frame-area.ensures c.rearrange.ensures.pixels);
+          (g.met.S.Bitmap.sound d.screen) way.1 way.2 (simp way.0 at c.rearrange.ensures.book)
+          (subst (λ (z : Rectangle). Rearranges d.book.plan a.after slots (z ∷ []) s t (g.S.Bitmap.picture e.screen) (g.T.Bitmap.picture e.store)) c.frame-area.ensures (simp way.0 at c.rearrange.ensures.pixels));
       rest = c.rearrange.ensures.rest;
       refused = tt;
     }

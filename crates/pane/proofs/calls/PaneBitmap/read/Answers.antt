@@ -1,9 +1,8 @@
 use Rattle.std.proofs.Common.{◌≡◌, ℕ, nat_abs, ap, ◌∙◌}
-use Rattle.std.proofs.lemmas.Result.{err_from_is_err_and}
 use Rattle.std.proofs.lemmas.Int.{to_z-of_z}
 use Rattle.std.specs.Result.{result_unwrap_or}
 use Rattle.raster.specs.Calls.{read_at}
-use Rattle.raster.proofs.Called.{place_refused, read_found}
+use Rattle.raster.proofs.Called.{place_refused, hands_on, read_found}
 use Rattle.paper.specs.Desk.{Answer, answer, read_layer}
 use Rattle.desk.specs.Desks.{on_paper}
 use Rattle.pane.specs.Panes.{picture_of}
@@ -16,9 +15,8 @@ returns-in_err-read_place g c =
     let fx = c.ranges.x in
     let fy = c.ranges.y in
     let p = picture_of g.S.Bitmap g.T.Bitmap a.self.now in
-    let e = err_from_is_err_and c.from_residual.result c.from_residual.ensures.1 in
     let place : ℕ × ℕ = (nat_abs a.x, nat_abs a.y) in
-    rw (e.1, e.2) (place_refused p (read_at a.x a.y) _ place (at_size p (read_at a.x a.y) place c.size.ensures (simp to_z-of_z at c.in_err-read_place.ensures))).answer
+    hands_on _ _ c.from_residual.ensures.1 (place_refused p (read_at a.x a.y) _ place (at_size p (read_at a.x a.y) place c.size.ensures (simp to_z-of_z at c.in_err-read_place.ensures)))
 
 pub returns : goal.returns
 returns g c =

@@ -1,23 +1,19 @@
-use Rattle.std.proofs.Common.{sym, refl, ap, ◌∙◌, subst}
-use Rattle.std.proofs.lemmas.Result.{err_from_is_err_and}
+use Rattle.std.proofs.Common.{sym, ap, ◌∙◌, subst}
 use Rattle.raster.specs.Blits.{Performs}
 use Rattle.raster.specs.Calls.{scroll_by, bitmap_fault}
 use Rattle.raster.specs.declared.size.Size.{Size}
 use Rattle.raster.proofs.Called.{refused, blit_painted}
 use Rattle.paper.proofs.Draws.{scrolls}
 use Rattle.pane.specs.Panes.{picture_of}
-use Rattle.pane.specs.Joins.{pane_same}
-use Rattle.pane.proofs.Kept.{pane_drawn, pane_kept}
+use Rattle.pane.proofs.Kept.{pane_refused, pane_drawn, pane_kept}
 use Rattle.pane.proofs.calls.PaneBitmap.scroll.Goals as goal
 
 pub returns-in_err-blit : goal.returns-in_err-blit
 returns-in_err-blit g c =
     let a = c.args in
     let call = scroll_by a.transfer in
-    let p = err_from_is_err_and c.from_residual.result c.from_residual.ensures.1 in
-    let r = refused (picture_of g.S.Bitmap g.T.Bitmap a.self.now) call _ (ap (λ (z : Size). bitmap_fault z call) (sym c.size.ensures) ∙ c.in_err-blit.ensures) in
-    rw (p.1, p.2)
-    (record { answer = r.answer; after = r.after; rest = pane_same g.S.Bitmap g.T.Bitmap g.met.S.Bitmap.same g.met.T.Bitmap.same a.self.now; refused = refl })
+    pane_refused g.S.Bitmap g.T.Bitmap g.met.S.Bitmap.same g.met.T.Bitmap.same a.self.now call _ _ c.from_residual.ensures.1
+    (refused (picture_of g.S.Bitmap g.T.Bitmap a.self.now) call _ (ap (λ (z : Size). bitmap_fault z call) (sym c.size.ensures) ∙ c.in_err-blit.ensures))
 
 pub returns : goal.returns
 returns g c =

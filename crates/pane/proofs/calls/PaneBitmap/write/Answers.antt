@@ -1,5 +1,4 @@
-use Rattle.std.proofs.Common.{ℕ, nat_abs, refl, ◌∙◌, subst, w16, to_z, of_z}
-use Rattle.std.proofs.lemmas.Result.{err_from_is_err_and}
+use Rattle.std.proofs.Common.{ℕ, nat_abs, ◌∙◌, subst, w16, to_z, of_z}
 use Rattle.std.proofs.lemmas.Int.{to_z-of_z}
 use Rattle.raster.specs.Calls.{write_at}
 use Rattle.raster.specs.declared.rectangle.Rectangle.{Rectangle}
@@ -10,8 +9,7 @@ use Rattle.paper.proofs.Draws.{fills}
 use Rattle.desk.specs.Desks.{state_of}
 use Rattle.pane.specs.Panes.{picture_of}
 use Rattle.pane.proofs.Drawings.{at_size, write_fills}
-use Rattle.pane.specs.Joins.{pane_same}
-use Rattle.pane.proofs.Kept.{pane_drawn, pane_kept}
+use Rattle.pane.proofs.Kept.{pane_refused, pane_drawn, pane_kept}
 use Rattle.pane.proofs.calls.PaneBitmap.write.Goals as goal
 
 pub returns-in_err-write_place : goal.returns-in_err-write_place
@@ -21,11 +19,9 @@ returns-in_err-write_place g c =
     let fy = c.ranges.y in
     let p = picture_of g.S.Bitmap g.T.Bitmap a.self.now in
     let call = write_at a.x a.y a.v in
-    let e = err_from_is_err_and c.from_residual.result c.from_residual.ensures.1 in
     let place : ℕ × ℕ = (nat_abs a.x, nat_abs a.y) in
-    let r = place_refused p call _ place (at_size p call place c.size.ensures (simp to_z-of_z at c.in_err-write_place.ensures)) in
-    rw (e.1, e.2)
-    (record { answer = r.answer; after = r.after; rest = pane_same g.S.Bitmap g.T.Bitmap g.met.S.Bitmap.same g.met.T.Bitmap.same a.self.now; refused = refl })
+    pane_refused g.S.Bitmap g.T.Bitmap g.met.S.Bitmap.same g.met.T.Bitmap.same a.self.now call _ _ c.from_residual.ensures.1
+    (place_refused p call _ place (at_size p call place c.size.ensures (simp to_z-of_z at c.in_err-write_place.ensures)))
 
 pub returns : goal.returns
 returns g c =
