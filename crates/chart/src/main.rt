@@ -2,14 +2,14 @@
 #![tactic(auto)]
 
 use planes::Planes;
-use raster::{Bitmap, Transfer};
+use raster::{Bitmap, Row, Transfer};
 use runrows::RunRows;
-use std::alloc::{AllocError, Global};
 use std::io;
 
-/// How wide the chart is, and how many values a pixel of depth 2 has.
+/// How wide the chart is.
 const WIDTH: u8 = 16;
 
+/// How many values a pixel of depth 2 has.
 const VALUES: u8 = 4;
 
 /// Row 0 has each value four times in turn, row 1 four times in a row.
@@ -20,9 +20,8 @@ fn draw<B: Bitmap>(b: &mut B) {
     }
 }
 
-/// Row 1 after row 0 is scrolled onto it by a rule, a digit for each pixel.
-fn chart_row<B: Bitmap>(heap: Global, b: &mut B, rule: u8) -> Result<String, AllocError> {
-    draw(b);
+/// Scrolls row 0 onto row 1 by a rule.
+fn scroll<B: Bitmap>(b: &mut B, rule: u8) {
     let _ = b.scroll(Transfer {
         rule,
         sx: 0,
@@ -32,18 +31,14 @@ fn chart_row<B: Bitmap>(heap: Global, b: &mut B, rule: u8) -> Result<String, All
         w: u16::from(WIDTH),
         h: 1,
     });
-    let mut row = String::new(heap);
-    for v in (0..=i16::MAX).map_while(|x| b.read(x, 1).ok()) {
-        write!(row, "{v:x}")?;
-    }
-    Ok(row)
 }
 
-/// The chart on one kind of bitmap, drawn anew for each rule.
+/// The chart on one kind of bitmap, drawn anew for each rule: row 1 after row 0 is scrolled onto it.
 fn print_chart<B: Bitmap>(rt: &HostRuntime, kind: &str, b: &mut B) -> io::Result<()> {
     for rule in 0..16 {
-        let row = chart_row(rt.alloc(), b, rule)?;
-        println!(rt; "{kind} rule {rule}: {row}")?;
+        draw(b);
+        scroll(b, rule);
+        println!(rt; "{kind} rule {rule}: {}", Row(b, 1))?;
     }
     Ok(())
 }

@@ -91,6 +91,7 @@ fn refuses<B: Bitmap>(rt: &impl Abort, b: &mut B) -> Result<(), Fail> {
     shows(rt, b, [1, 2, 3, 0])
 }
 
+/// All cases on one bitmap of 4 by 2.
 fn all<B: Bitmap>(rt: &impl Abort, b: &mut B) -> Result<(), Fail> {
     assert_eq!(rt;
         b.size(),

@@ -6,25 +6,24 @@ mod call;
 use call::Call;
 use desk::Desk;
 use planes::Planes;
-use raster::{Bitmap, Rectangle, Transfer};
+use raster::{Rectangle, Row, SOURCE, Transfer};
 use runrows::RunRows;
-use std::alloc::{AllocError, Global};
 use std::io;
 
 /// The calls of the run, in order.
 fn calls() -> [Call; 25] {
     [
         Call::Open(1, Rectangle::new(2, 1, 20, 8)),
-        Call::Fill(1, 3, 1, Rectangle::new(0, 0, 20, 8)),
+        Call::Fill(1, SOURCE, 1, Rectangle::new(0, 0, 20, 8)),
         Call::Open(2, Rectangle::new(10, 4, 18, 7)),
-        Call::Fill(2, 3, 2, Rectangle::new(0, 0, 18, 7)),
+        Call::Fill(2, SOURCE, 2, Rectangle::new(0, 0, 18, 7)),
         Call::Open(3, Rectangle::new(-4, -3, 12, 9)),
-        Call::Fill(3, 3, 3, Rectangle::new(0, 0, 12, 9)),
+        Call::Fill(3, SOURCE, 3, Rectangle::new(0, 0, 12, 9)),
         Call::Fill(1, 6, 3, Rectangle::new(5, 2, 12, 5)),
         Call::Scroll(
             1,
             Transfer {
-                rule: 3,
+                rule: SOURCE,
                 sx: 0,
                 sy: 0,
                 dx: 3,
@@ -43,7 +42,7 @@ fn calls() -> [Call; 25] {
         Call::Top(3, 2),
         Call::Top(39, 0),
         Call::Raise(9),
-        Call::Fill(2, 3, 4, Rectangle::new(0, 0, 1, 1)),
+        Call::Fill(2, SOURCE, 4, Rectangle::new(0, 0, 1, 1)),
         Call::Open(1, Rectangle::new(0, 0, 1, 1)),
         Call::Open(4, Rectangle::new(0, 0, 200, 200)),
         Call::Close(3),
@@ -51,15 +50,6 @@ fn calls() -> [Call; 25] {
         Call::Move(2, 8, 0),
         Call::Slots,
     ]
-}
-
-/// A row of a bitmap, a digit for each pixel. The programs share no library, so each writes its rows itself.
-fn row<B: Bitmap>(heap: Global, b: &B, y: i16) -> Result<String, AllocError> {
-    let mut text = String::new(heap);
-    for v in (0..=i16::MAX).map_while(|x| b.read(x, y).ok()) {
-        write!(text, "{v:x}")?;
-    }
-    Ok(text)
 }
 
 fn main(rt: HostRuntime) -> io::Result<()> {
@@ -75,7 +65,7 @@ fn main(rt: HostRuntime) -> io::Result<()> {
     }
     let (screen, _) = desk.dismantle();
     for y in 0..12 {
-        println!(rt; "{}", row(heap, &screen, y)?)?;
+        println!(rt; "{}", Row(&screen, y))?;
     }
     Ok(())
 }

@@ -2,7 +2,7 @@
 use crate::call::Call;
 use desk::Desk;
 use planes::Planes;
-use raster::{Bitmap, Rectangle, Transfer};
+use raster::{Bitmap, Rectangle, SOURCE, Transfer};
 use runrows::RunRows;
 use std::alloc::Global;
 use std::process::Abort;
@@ -45,7 +45,7 @@ fn nth(n: u8) -> Call {
         ),
         4 => Call::Open(n / 10 % 5, Rectangle::new(x, y, w + 1, h + 1)),
         5 => Call::Move(c, x, y),
-        6 => Call::Fill(n / 10 % 5, 3, v % 4, Rectangle::new(0, 0, w, h)),
+        6 => Call::Fill(n / 10 % 5, SOURCE, v % 4, Rectangle::new(0, 0, w, h)),
         7 => Call::Lower(c),
         8 => Call::Read(c, x, y),
         _ => if n % 30 == 29 {
@@ -56,10 +56,18 @@ fn nth(n: u8) -> Call {
     }
 }
 
+/// Two bitmaps, 40 wide, show the same in a row.
+fn same_row<A: Bitmap, B: Bitmap>(rt: &impl Abort, a: &A, b: &B, y: i16) -> Result<(), Fail> {
+    for x in 0..40 {
+        assert_eq!(rt; a.read(x, y)?, b.read(x, y)?);
+    }
+    Ok(())
+}
+
 /// Two bitmaps of 40 by 12 show the same.
 fn same_screen<A: Bitmap, B: Bitmap>(rt: &impl Abort, a: &A, b: &B) -> Result<(), Fail> {
-    for i in 0..480 {
-        assert_eq!(rt; a.read(i % 40, i / 40)?, b.read(i % 40, i / 40)?);
+    for y in 0..12 {
+        same_row(rt, a, b, y)?;
     }
     Ok(())
 }

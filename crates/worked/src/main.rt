@@ -7,7 +7,6 @@ use examples::worked_examples;
 use planes::Planes;
 use raster::{Bitmap, Fault, Rectangle, SOURCE, Transfer};
 use runrows::RunRows;
-use std::alloc::{AllocError, Global};
 use std::{fmt, io};
 
 /// What a call answers, as it is printed: its number, or its refusal's number behind `no`.
@@ -23,13 +22,17 @@ impl fmt::Display for Answer {
     }
 }
 
-/// The pixels of row 0, a blank before each. The programs share no library, so each writes its rows itself.
-fn row<B: Bitmap>(heap: Global, b: &B) -> Result<String, AllocError> {
-    let mut text = String::new(heap);
-    for v in (0..=i16::MAX).map_while(|x| b.read(x, 0).ok()) {
-        write!(text, " {v}")?;
+/// The pixels of row 0 as they are printed: a blank before each.
+#[derive(Drop)]
+struct Pixels<'a, B>(&'a B);
+
+impl<B: Bitmap> fmt::Display for Pixels<'_, B> {
+    fn fmt<W: fmt::Write>(&self, f: &mut fmt::Formatter<W>) -> fmt::Result {
+        for v in (0..=i16::MAX).map_while(|x| self.0.read(x, 0).ok()) {
+            write!(f, " {v}")?;
+        }
+        Ok(())
     }
-    Ok(text)
 }
 
 /// Sets row 0 to 1 2 3 0.
@@ -52,8 +55,7 @@ fn print_scrolls<B: Bitmap>(rt: &HostRuntime, b: &mut B) -> io::Result<()> {
             w: 3,
             h: 1,
         }));
-        let pixels = row(rt.alloc(), b)?;
-        println!(rt; "scroll from {from} to {to}: {n} pixels:{pixels}")?;
+        println!(rt; "scroll from {from} to {to}: {n} pixels:{}", Pixels(b))?;
     }
     Ok(())
 }
@@ -63,8 +65,7 @@ fn print_planes(rt: &HostRuntime) -> io::Result<()> {
     let mut b = Planes::new(vec![in heap; 0; 4]?, 3, 2, 2);
     let _ = b.write(0, 0, 1);
     let _ = b.fill(12, 1, Rectangle::new(0, 0, 1, 1));
-    let pixels = row(heap, &b)?;
-    println!(rt; "rule 12 of the source 1 at depth 2:{pixels}")?;
+    println!(rt; "rule 12 of the source 1 at depth 2:{}", Pixels(&b))?;
     let n = Answer(b.fill(SOURCE, 1, Rectangle::new(-2, -1, 4, 3)));
     println!(rt; "fill at (-2, -1), 4 by 3, of 3 by 2: {n}")?;
     print_scrolls(rt, &mut Planes::new(vec![in heap; 0; 2]?, 4, 1, 2))?;
