@@ -1,7 +1,6 @@
 -- Sums of bits, and tests over all numbers below a bound.
-use Rattle.std.proofs.Common.{◌≡◌, ℕ, zero, suc, ◌+◌, ◌-◌, ◌*◌, ◌/◌, ◌%◌, ◌^◌, ◌<◌, ◌≤◌, Bool, true, ◌&&◌, eqb, List, [], get_or, sym, refl, ap, ◌∙◌, ⊎_elim, mod-eq_of_lt, mul_assoc, add_comm, pow-suc, add-one, arith, pow_mono}
-use native.Mathlib.Nat.{add-mul-div_right, add-mul-mod_self_right}
-use Rattle.std.proofs.lemmas.Nat.{mod-pow-add, pow_pos, pow-add, mod_below, mul-le, shr_high, shl_whole}
+use Rattle.std.proofs.Common.{◌≡◌, ℕ, zero, suc, ◌+◌, ◌-◌, ◌*◌, ◌/◌, ◌%◌, ◌^◌, ◌<◌, ◌≤◌, Bool, true, eqb, List, [], get_or, sym, refl, ap, ◌∙◌, ⊎_elim, mod-eq_of_lt, add_comm, pow-suc, add-one, arith, pow_mono}
+use Rattle.std.proofs.lemmas.Nat.{mod-pow-add, mul-le, shr_high, shl_whole}
 use Rattle.std.proofs.lemmas.Bool.{eqb-true, cases_lt, agree_below, agree_below_at}
 pub use Rattle.std.proofs.lemmas.Nat.Bits.{bit_at-lt as bit_below}
 use Rattle.std.proofs.lemmas.Nat.Bits.{bit_at_cat_low, bit_at-lt}

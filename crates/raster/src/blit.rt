@@ -3,6 +3,7 @@ ghost use Rattle.std.specs.Prelude.{◌≡◌, ◌*◌};
 ghost use Rattle.raster.specs.Calls.{fill_with, scroll_by};
 ghost use Rattle.raster.specs.Blits.{Prepares};
 
+use crate::clip::Clip;
 use crate::fault::Fault;
 use crate::ink::Ink;
 use crate::rectangle::Rectangle;
@@ -30,11 +31,12 @@ impl Blit {
         if size.excludes(v) {
             return Err(Refusal::ValueTooLarge.into());
         }
+        let Clip { columns, rows } = area.clip(size);
         Ok(Blit {
             rule,
             ink: Ink::Value(v),
-            columns: Span::clip(area.x, area.x, area.w, size.width, size.width),
-            rows: Span::clip(area.y, area.y, area.h, size.height, size.height),
+            columns,
+            rows,
         })
     }
 
@@ -42,20 +44,13 @@ impl Blit {
     pub fn scroll(size: Size, transfer: Transfer) -> Result<Blit, Fault>
         ensures { Prepares size (scroll_by transfer) result }
     {
-        let Transfer {
-            rule,
-            sx,
-            sy,
-            dx,
-            dy,
-            w,
-            h,
-        } = transfer;
+        let rule = Rule::try_from(transfer.rule)?;
+        let Clip { columns, rows } = transfer.clip(size, size);
         Ok(Blit {
-            rule: Rule::try_from(rule)?,
+            rule,
             ink: Ink::Itself,
-            columns: Span::clip(sx, dx, w, size.width, size.width),
-            rows: Span::clip(sy, dy, h, size.height, size.height),
+            columns,
+            rows,
         })
     }
 
@@ -63,6 +58,7 @@ impl Blit {
     pub fn count(&self) -> u32
         ensures { result ≡ self.now.rows.len * self.now.columns.len }
     {
-        u32::from(self.rows.len) * u32::from(self.columns.len)
+        let Blit { columns, rows, .. } = *self;
+        Clip { columns, rows }.count()
     }
 }

@@ -3,6 +3,7 @@
 
 mod bitmap;
 mod blit;
+mod clip;
 mod fault;
 mod ink;
 mod laws;
@@ -17,6 +18,7 @@ mod transfer;
 
 pub use bitmap::Bitmap;
 pub use blit::Blit;
+pub use clip::Clip;
 pub use fault::Fault;
 pub use ink::Ink;
 pub use laws::bitmap_laws;

@@ -1,6 +1,5 @@
 use Rattle.std.proofs.Common.{Some, sym, ap, ◌∙◌, w16, SFits, rules}
 use Rattle.std.proofs.lemmas.Result.{err_from_is_err_and}
-use Rattle.std.proofs.lemmas.Int.{to_z-of_z}
 use Rattle.std.proofs.lemmas.Bool.{lt-ltb, le-ltb}
 use Rattle.raster.specs.declared.fault.Fault.{Fault}
 use Rattle.raster.proofs.Accepts.{fill_no_rule, fill_too_large}
@@ -29,5 +28,5 @@ returns c =
     let fx : SFits w16 r.x = search rules in
     let fy : SFits w16 r.y = search rules in
     let e = c.in_ok-rule.ensures in
-    fill_performs c.in_ok-rule.rule c.clip.result c.clip-2.result a.rule a.v r.x r.y r.w r.h a.size e.1 e.0
-    (sym c.if-excludes.ensures) (simp to_z-of_z at c.clip.ensures) (simp to_z-of_z at c.clip-2.ensures)
+    fill_performs c.in_ok-rule.rule c.clip.result.columns c.clip.result.rows a.rule a.v r.x r.y r.w r.h a.size e.1 e.0
+    (sym c.if-excludes.ensures) c.clip.ensures.columns c.clip.ensures.rows
