@@ -5,6 +5,7 @@ ghost use Rattle.planes.specs.Keep.{planes_sound, planes_same, planes_joins};
 use crate::planes::Planes;
 use raster::{Bitmap, Blit, Fault, Rectangle, Size, Transfer};
 
+// The bodies read like those of run rows: each calls its own kind's pixels and blits, and a trait over both kinds would be `Bitmap` again.
 impl Bitmap for Planes {
     ghost picture = { picture_of };
 

@@ -7,6 +7,7 @@ ghost use Rattle.runrows.specs.Keep.{rows_sound, rows_same, rows_joins};
 use crate::runrows::RunRows;
 use raster::{Bitmap, Blit, Fault, Rectangle, Size, Transfer};
 
+// The bodies read like those of planes: each calls its own kind's pixels and blits, and a trait over both kinds would be `Bitmap` again.
 impl Bitmap for RunRows {
     ghost picture = { picture_of };
 
