@@ -1,5 +1,5 @@
 -- A pixel's spot, from what an arrangement and a table answer.
-use Rattle.std.proofs.Common.{◌≡◌, ℕ, ◌*◌, ◌/◌, ◌<◌, ◌≤◌, Bool, true, false, cond, ◌&&◌, ltb, pos, ◌+ℤ◌, nat_abs, Some, None, Option, sym, ap, ◌∙◌, subst, arith}
+use Rattle.std.proofs.Common.{◌≡◌, ℕ, ◌/◌, ◌<◌, ◌≤◌, false, cond, ◌&&◌, ltb, pos, ◌+ℤ◌, nat_abs, Some, None, Option, sym, ap, ◌∙◌, subst, arith}
 use Rattle.std.proofs.lemmas.Bool.{false_from_ne_true, and_from, lt-ltb, cond-true, cond-false}
 use Rattle.std.proofs.lemmas.Option.{none-some, cond_some}
 use Rattle.raster.specs.Picture.{Picture, sizes}

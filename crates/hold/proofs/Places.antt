@@ -3,14 +3,13 @@ use Rattle.std.proofs.Common.{◌≡◌, ℕ, zero, suc, ◌+◌, ◌*◌, ◌/�
 use native.Mathlib.Nat.{div-add-mod}
 use Rattle.std.proofs.lemmas.Int.{ints}
 use Rattle.std.proofs.lemmas.Bool.Decides.{nat_tests}
-use Rattle.std.proofs.lemmas.Bool.{both_ways, false≢true, and_parts, and_from, or_left, or_right, not-true, not_from_false, eqb-true, ltb-false, lt-ltb, cases_eq}
+use Rattle.std.proofs.lemmas.Bool.{both_ways, false≢true, and_parts, and_from, or_left, or_right, not-true, not_from_false, eqb-true, lt-ltb, cases_eq}
 use Rattle.raster.specs.Picture.{Picture, sizes}
-use Rattle.raster.specs.Blt.{holds, inside}
-use Rattle.raster.specs.Calls.{any_below}
+use Rattle.raster.specs.Blt.{inside}
 use Rattle.raster.specs.declared.size.Size.{Size}
 use Rattle.raster.proofs.Accepts.{place_within, inside_place}
-use Rattle.paper.specs.Layers.{Layer, covers, covered}
-use Rattle.paper.specs.Slots.{obscured, hidden, hidden_in, slots_of}
+use Rattle.paper.specs.Layers.{covers, covered}
+use Rattle.paper.specs.Slots.{obscured, hidden_in, slots_of}
 use Rattle.paper.proofs.HiddenPixels.{covers_pixel}
 use Rattle.raster.specs.declared.rectangle.Rectangle.{Rectangle}
 use Rattle.plan.specs.declared.plan.Plan.{Plan}

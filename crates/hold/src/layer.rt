@@ -33,7 +33,8 @@ pub fn masked(value: u8, depth: u8) -> u8
     }
 }
 
-// Screen and store stay parameters: a struct that holds two `&mut` must promise, at each call, that both still point to the same bitmaps.
+// Screen and store stay two parameters. A struct of two `&mut` must promise, at each call, that both still point to the same bitmaps; one that owned
+// both would have to promise of stowing, which reads the screen, and of repainting, which reads the store, that the half that is read stays.
 impl Layer<'_> {
     /// The pixel (u, v).
     pub fn read_pixel<S: Bitmap, T: Bitmap>(self, screen: &S, store: &T, u: u16, v: u16) -> u8

@@ -1,6 +1,6 @@
 -- Tables adjusted to a change, as a whole or where it can tell, are right for all patches.
 use Rattle.std.proofs.Common.{◌≡◌, ℕ, ◌+◌, ◌<◌, ◌≤◌, Bool, true, false, cond, not, ◌&&◌, ◌||◌, eqb, ltb, sym, refl, ap, ◌∙◌, ⊎_elim, arith, rules}
-use Rattle.std.specs.Prelude.{Some, None, Option, IfSome, Ok, Err, Result}
+use Rattle.std.specs.Prelude.{None, IfSome, Ok, Err, Result}
 use Rattle.std.proofs.lemmas.Bool.Decides.{nat_tests}
 use Rattle.std.proofs.lemmas.Bool.{and_from, and_parts, eq-eqb, or_left, or_right, or_cases}
 use Rattle.plan.specs.declared.change.Change.{Change}

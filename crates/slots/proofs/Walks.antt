@@ -1,7 +1,7 @@
 -- Tables adjusted region by region.
 use Rattle.std.proofs.Common.{◌≡◌, ℕ, ◌+◌, ◌/◌, ◌<◌, ◌≤◌, Bool, true, false, cond, ◌||◌, eqb, sym, refl, ap, ◌∙◌, subst, ap₂, ⊎_elim, add-one, arith}
-use Rattle.std.specs.Prelude.{Some, None, Option, Ok, Err, Result, IsErr}
-use Rattle.std.proofs.lemmas.Bool.{false_from_ne_true, both_ways, ne_eqb, or_from, or_left, or_right, or_parts, or_cases, false≢true}
+use Rattle.std.specs.Prelude.{Ok, Err, Result}
+use Rattle.std.proofs.lemmas.Bool.{false_from_ne_true, both_ways, ne_eqb, or_from, or_left, or_right, or_parts, or_cases}
 use Rattle.raster.specs.Calls.{any_below}
 use Rattle.raster.specs.declared.rectangle.Rectangle.{Rectangle}
 use Rattle.plan.specs.declared.plan.Plan.{Plan}
