@@ -9,7 +9,7 @@ use crate::desk::Desk;
 use crate::faults::because;
 use draw::stamp;
 use paper::DeskFault;
-use raster::{Bitmap, Refusal, Rule, Span, Transfer};
+use raster::{Bitmap, Refusal, Rule, Transfer};
 
 impl<S: Bitmap, T: Bitmap> Desk<S, T> {
     /// The rule of a stamp on the client's layer from a bitmap of a depth, or what is refused.
@@ -34,28 +34,9 @@ impl<S: Bitmap, T: Bitmap> Desk<S, T> {
         ensures { Performed S.Bitmap T.Bitmap self.old (stamp_layer c transfer (B.Bitmap.picture source.now)) result self.new }
     {
         let from = source.size();
-        let Transfer {
-            rule,
-            sx,
-            sy,
-            dx,
-            dy,
-            w,
-            h,
-        } = transfer;
-        let rule = self.check_stamp(c, rule, from.depth)?;
-        let size = self.pane_size(c);
-        let columns = Span::clip(sx, dx, w, from.width, size.width);
-        let rows = Span::clip(sy, dy, h, from.height, size.height);
+        let rule = self.check_stamp(c, transfer.rule, from.depth)?;
+        let clip = transfer.clip(from, self.pane_size(c));
         let layer = self.book.layer(c);
-        Ok(stamp(
-            &mut self.screen,
-            &mut self.store,
-            layer,
-            source,
-            rule,
-            columns,
-            rows,
-        ))
+        Ok(stamp(&mut self.screen, &mut self.store, layer, source, rule, clip))
     }
 }

@@ -1,18 +1,14 @@
 -- What a blit and a stamp paint, by their sources.
-use Rattle.std.proofs.Common.{rules, ◌≡◌, ℕ, ◌*◌, Bool, ◌&&◌, pos, nat_abs, sym, refl, ap, ◌∙◌, subst, ap₂, arith}
-use Rattle.std.proofs.lemmas.Bool.{and_parts}
-use Rattle.raster.specs.Rules.{combined}
+use Rattle.std.proofs.Common.{◌≡◌, ℕ, ◌*◌, sym, refl, subst, arith}
 use Rattle.raster.specs.Picture.{Picture, sizes, Sound}
-use Rattle.raster.specs.Blt.{holds, behind, concerned, from_picture, count, blt}
+use Rattle.raster.specs.Blt.{from_picture, count, blt}
 use Rattle.raster.specs.declared.transfer.Transfer.{Transfer}
-use Rattle.raster.specs.Blits.{spans, inked, performed}
-use Rattle.raster.specs.Clip.{hits, Clipped}
+use Rattle.raster.specs.Blits.{inked, performed}
+use Rattle.raster.specs.Clip.{Clipped}
 use Rattle.raster.specs.declared.blit.Blit.{Blit}
-use Rattle.raster.specs.declared.ink.Ink.TheVariants.{Value}
 use Rattle.raster.specs.declared.rule.Rule.{Rule}
 use Rattle.raster.specs.declared.size.Size.{Size}
 use Rattle.raster.specs.declared.span.Span.{Span}
-use Rattle.raster.proofs.Paints.{painted_same}
 use Rattle.raster.proofs.Prepared.{clip_blt, clip_count}
 use Rattle.plan.specs.declared.plan.Plan.{Plan}
 use Rattle.plan.specs.Plans.{frame_in}

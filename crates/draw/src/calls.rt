@@ -11,7 +11,7 @@ ghost use Rattle.draw.specs.Stamps.{Stamps};
 use crate::blending::blend;
 use crate::source::Other;
 use hold::Layer;
-use raster::{Bitmap, Blit, Rule, Span};
+use raster::{Bitmap, Blit, Clip, Rule};
 
 /// Performs a blit on a layer.
 pub fn paint<S: Bitmap, T: Bitmap>(screen: &mut S, store: &mut T, layer: Layer<'_>, blit: Blit)
@@ -23,25 +23,23 @@ pub fn paint<S: Bitmap, T: Bitmap>(screen: &mut S, store: &mut T, layer: Layer<'
         columns,
         rows,
     } = blit;
-    blend(screen, store, layer, &ink, rule, columns, rows);
+    blend(screen, store, layer, &ink, rule, Clip { columns, rows });
 }
 
-/// Stamps another bitmap on a layer: the rest of a BitBlt that is clipped to `columns` and `rows`; the count of pixels concerned.
-// Rule, columns and rows stay parameters: a `Blit` has all three, but also an ink, which a stamp has not.
+/// Stamps another bitmap on a layer: the rest of a BitBlt that is clipped; the count of pixels concerned.
 pub fn stamp<S: Bitmap, T: Bitmap, B: Bitmap>(
     screen: &mut S,
     store: &mut T,
     layer: Layer<'_>,
     source: &B,
     rule: Rule,
-    columns: Span,
-    rows: Span,
+    clip: Clip,
 ) -> u32
-    ensures drawn { (t : Transfer) → Stamps layer.entry.layout.plan.now layer.entry.client t (sizes (B.Bitmap.picture source.now)) rule columns rows → Draws S.Bitmap T.Bitmap layer.entry screen.old store.old screen.new store.new (blt t (from_picture (B.Bitmap.picture source.now))) }
-    ensures count { (t : Transfer) → Stamps layer.entry.layout.plan.now layer.entry.client t (sizes (B.Bitmap.picture source.now)) rule columns rows → result ≡ count t (from_picture (B.Bitmap.picture source.now)) (sizes (layer_on S.Bitmap T.Bitmap layer.entry screen.old store.old)) }
+    ensures drawn { (t : Transfer) → Stamps layer.entry.layout.plan.now layer.entry.client t (sizes (B.Bitmap.picture source.now)) rule clip.columns clip.rows → Draws S.Bitmap T.Bitmap layer.entry screen.old store.old screen.new store.new (blt t (from_picture (B.Bitmap.picture source.now))) }
+    ensures count { (t : Transfer) → Stamps layer.entry.layout.plan.now layer.entry.client t (sizes (B.Bitmap.picture source.now)) rule clip.columns clip.rows → result ≡ count t (from_picture (B.Bitmap.picture source.now)) (sizes (layer_on S.Bitmap T.Bitmap layer.entry screen.old store.old)) }
     ensures screen { S.Bitmap.keeps screen.old screen.new }
     ensures store { T.Bitmap.keeps store.old store.new }
 {
-    blend(screen, store, layer, &Other(source), rule, columns, rows);
-    u32::from(rows.len) * u32::from(columns.len)
+    blend(screen, store, layer, &Other(source), rule, clip);
+    clip.count()
 }

@@ -1,25 +1,17 @@
 -- Which layer shows at a screen place, and where its pixel lies in the store.
-use Rattle.std.proofs.Common.{rules, tests, ◌≡◌, ℕ, ◌+◌, ◌*◌, ◌/◌, ◌%◌, ◌<◌, ◌≤◌, Bool, true, false, cond, not, ◌||◌, eqb, ltb, List, [], ◌∷◌, get_or, ℤ, pos, ◌+ℤ◌, ◌-ℤ◌, nat_abs, is_some, Some, None, Option, sym, refl, ap, ◌∙◌, subst, ap₂, mod-lt, mul_comm, div-lt_iff_lt-mul, arith}
-use native.Mathlib.Nat.{div-add-mod}
+use Rattle.std.proofs.Common.{rules, tests, ◌≡◌, ℕ, ◌<◌, Bool, true, false, cond, not, ◌||◌, eqb, List, [], ◌∷◌, get_or, ℤ, pos, ◌+ℤ◌, ◌-ℤ◌, nat_abs, is_some, Some, None, Option, sym, refl, ap, ◌∙◌, subst, ap₂, arith}
 use Rattle.std.proofs.lemmas.Int.{ints}
 use Rattle.std.proofs.lemmas.Bool.Decides.{nat_tests}
-use Rattle.std.proofs.lemmas.Bool.{and_parts, and_from, or_left, or_right, not-true, not_from_false, both_ways, eqb-true, eq-eqb, lt-ltb}
-use Rattle.raster.specs.Picture.{Picture, sizes}
-use Rattle.raster.specs.Blt.{holds, inside}
-use Rattle.raster.specs.declared.size.Size.{Size}
+use Rattle.std.proofs.lemmas.Bool.{and_parts, and_from, or_left, or_right, not_from_false, both_ways, eqb-true, eq-eqb}
+use Rattle.raster.specs.Blt.{inside}
 use Rattle.paper.specs.Layers.{Layer, or_else, covers, covered, topmost}
-use Rattle.paper.specs.Slots.{slots_of}
 use Rattle.paper.specs.Desk.{client_if}
 use Rattle.paper.proofs.Screen.{topmost_tells, none_topmost}
-use Rattle.paper.proofs.HiddenPixels.{covers_pixel}
 use Rattle.raster.specs.declared.rectangle.Rectangle.{Rectangle}
 use Rattle.plan.specs.declared.plan.Plan.{Plan}
 use Rattle.slots.specs.declared.slots.Slots.{Slots}
 use Rattle.plan.specs.Frames.{no_frame, has, distinct}
-use Rattle.plan.specs.Plans.{outline, outlines, listed, layers_in, frame_in, above, seen, patch_at}
-use Rattle.plan.proofs.Sifts.{open_low}
-use Rattle.slots.proofs.Spares.{slot_low, slots_apart}
-use Rattle.hold.specs.Spots.{own_slot}
+use Rattle.plan.specs.Plans.{outline, outlines, listed, layers_in, frame_in, above, seen}
 use Rattle.hold.specs.Held.{OwnPixel}
 use Rattle.hold.proofs.Places.{Real, real, store_apart, seen_place, seen_covers}
 use Rattle.hold.proofs.Shows.{pixel_at}

@@ -1,21 +1,19 @@
 -- From one arrangement to another: after stowing and repainting every pixel is where its spot says, and the screen shows the layers.
-use Rattle.std.proofs.Common.{◌≡◌, ℕ, ◌+◌, ◌*◌, ◌/◌, ◌%◌, ◌^◌, ◌<◌, Bool, true, false, cond, ◌&&◌, ◌||◌, ◌⊎◌, List, pos, ◌+ℤ◌, nat_abs, is_some, Some, None, Option, sym, refl, ap, ◌∙◌, subst, ap₂, inl, inr, ⊎_elim, mod-eq_of_lt, arith}
+use Rattle.std.proofs.Common.{◌≡◌, ℕ, ◌+◌, ◌/◌, ◌%◌, ◌^◌, ◌<◌, Bool, true, false, cond, ◌&&◌, ◌||◌, ◌⊎◌, pos, ◌+ℤ◌, nat_abs, is_some, Some, None, Option, sym, refl, ap, ◌∙◌, subst, ap₂, inl, inr, ⊎_elim, mod-eq_of_lt, arith}
 use Rattle.std.proofs.lemmas.Bool.Decides.{nat_tests}
-use Rattle.std.proofs.lemmas.Bool.{and_from, and_left, or_left, or_right, not_from_false, both_ways, cond-true, cond-false, cases_Bool, lt-ltb}
+use Rattle.std.proofs.lemmas.Bool.{and_from, and_left, or_left, or_right, both_ways, cond-true, cond-false, cases_Bool}
 use Rattle.raster.specs.Picture.{Picture, sizes}
 use Rattle.raster.specs.Blt.{inside}
-use Rattle.raster.specs.Calls.{any_below}
 use Rattle.raster.specs.declared.size.Size.{Size}
 use Rattle.raster.proofs.Paints.{same_picture, painted_at}
 use Rattle.paper.specs.Layers.{Layer, covered, topmost, shown, screen_after}
-use Rattle.paper.specs.Slots.{slots_of, obscured, hidden, hidden_in}
+use Rattle.paper.specs.Slots.{slots_of}
 use Rattle.paper.proofs.Screen.{topmost_tells, none_shown, screen_sizes}
 use Rattle.plan.specs.declared.plan.Plan.{Plan}
 use Rattle.slots.specs.declared.slots.Slots.{Slots}
 use Rattle.plan.specs.Frames.{has}
-use Rattle.plan.specs.Plans.{outline, listed, layers_in, frame_in, above, seen, patch_at, hidden_patch}
+use Rattle.plan.specs.Plans.{listed, layers_in, frame_in, seen, patch_at, hidden_patch}
 use Rattle.slots.specs.Tables.{slot_of, has_slot}
-use Rattle.plan.proofs.Patches.{any_of, hidden_open}
 use Rattle.hold.specs.Spots.{slot_x, slot_y, screen_spot, store_spot, spot_of, look}
 use Rattle.hold.specs.Held.{Pixels, layers_with, held, Holds}
 use Rattle.hold.proofs.Places.{real, real_patch, unseen_hidden}

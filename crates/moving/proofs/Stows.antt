@@ -1,5 +1,5 @@
 -- Stowing and repainting some places and then others.
-use Rattle.std.proofs.Common.{rules, tests, ◌≡◌, ℕ, ◌*◌, ◌/◌, ◌%◌, ◌^◌, ◌<◌, ◌≤◌, Bool, true, false, cond, ◌&&◌, ◌||◌, eqb, ltb, Some, None, Option, sym, refl, ap, ◌∙◌, subst, ap₂, mod-lt, arith, pow_mono}
+use Rattle.std.proofs.Common.{rules, tests, ◌≡◌, ℕ, ◌%◌, ◌^◌, ◌<◌, ◌≤◌, Bool, true, false, cond, ◌&&◌, ◌||◌, eqb, Some, None, Option, sym, refl, ap, ◌∙◌, subst, ap₂, mod-lt, arith, pow_mono}
 use Rattle.std.proofs.lemmas.Bool.Decides.{nat_tests}
 use Rattle.std.proofs.lemmas.Bool.{and_parts, and_from, and_left, or_left, or_right, both_ways, eqb-true, eq-eqb, cond-true, cond-false}
 use Rattle.std.proofs.lemmas.Nat.{pow_pos}

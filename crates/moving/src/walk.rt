@@ -3,7 +3,7 @@ ghost use Rattle.std.specs.Prelude.{◌≡◌, ℕ, ◌+◌, ◌-◌, ◌*◌, �
 ghost use Rattle.std.specs.Iterator.{at_most};
 ghost use Rattle.moving.specs.Phases.{ahead, on_screen, Gives};
 
-use raster::{Rectangle, Size, Span};
+use raster::{Clip, Rectangle, Size};
 
 /// The places of a rectangle that are still ahead: those of the row `y` from `x` on, and the rows after it.
 #[derive(Drop)]
@@ -20,8 +20,7 @@ impl Places {
     pub(crate) fn new(size: Size, area: Rectangle) -> Self
         ensures { (x y : ℕ) → ahead result x y ≡ on_screen size area x y }
     {
-        let columns = Span::clip(area.x, area.x, area.w, size.width, size.width);
-        let rows = Span::clip(area.y, area.y, area.h, size.height, size.height);
+        let Clip { columns, rows } = area.clip(size);
         Places {
             left: columns.first,
             right: columns.first + columns.len,

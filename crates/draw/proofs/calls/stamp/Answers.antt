@@ -1,4 +1,4 @@
-use Rattle.std.proofs.Common.{◌*◌, ◌∙◌, ap₂}
+use Rattle.std.proofs.Common.{◌∙◌}
 use Rattle.draw.proofs.Strokes.{drawn_as}
 use Rattle.draw.proofs.Stamped.{stamp_within, stamp_blt, stamp_count}
 use Rattle.draw.proofs.calls.stamp.Goals as goal
@@ -11,12 +11,12 @@ returns-clause-drawn g c =
     let source = g.B.Bitmap.picture a.source.now in
     λ t w f.
     drawn_as a.layer screen store (g.S.Bitmap.picture c.blend.new.screen) (g.T.Bitmap.picture c.blend.new.store) _ _
-    (stamp_blt a.layer screen store source t a.rule a.columns a.rows w)
-    (c.blend.ensures.drawn (stamp_within a.layer screen store source t a.rule a.columns a.rows w (g.met.B.Bitmap.sound a.source.now), λ _ _ _ _. tt) f)
+    (stamp_blt a.layer screen store source t a.rule a.clip.columns a.clip.rows w)
+    (c.blend.ensures.drawn (stamp_within a.layer screen store source t a.rule a.clip.columns a.clip.rows w (g.met.B.Bitmap.sound a.source.now), λ _ _ _ _. tt) f)
 
 pub returns-clause-count : goal.returns-clause-count
 returns-clause-count g c =
     let a = c.args in
     λ t w.
-    ap₂ ◌*◌ c.from.ensures c.from-2.ensures
-    ∙ stamp_count a.layer (g.S.Bitmap.picture a.screen.now) (g.T.Bitmap.picture a.store.now) (g.B.Bitmap.picture a.source.now) t a.rule a.columns a.rows w
+    c.count.ensures
+    ∙ stamp_count a.layer (g.S.Bitmap.picture a.screen.now) (g.T.Bitmap.picture a.store.now) (g.B.Bitmap.picture a.source.now) t a.rule a.clip.columns a.clip.rows w

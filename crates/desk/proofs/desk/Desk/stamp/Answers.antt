@@ -1,6 +1,5 @@
-use Rattle.std.proofs.Common.{refl, w16, SFits, rules}
+use Rattle.std.proofs.Common.{refl}
 use Rattle.std.proofs.lemmas.Result.{err_from_is_err_and}
-use Rattle.std.proofs.lemmas.Int.{to_z-of_z}
 use Rattle.paper.specs.Desk.{stamp_layer}
 use Rattle.desk.specs.Desks.{on_pictures, used_by}
 use Rattle.desk.proofs.Fits.{fitting}
@@ -33,12 +32,8 @@ returns g c =
     let source = g.B.Bitmap.picture a.source.now in
     let move = a.transfer in
     let ok = simp c.size-from.ensures at c.in_ok-rule.ensures.0 in
-    let fsx : SFits w16 move.sx = search rules in
-    let fsy : SFits w16 move.sy = search rules in
-    let fdx : SFits w16 move.dx = search rules in
-    let fdy : SFits w16 move.dy = search rules in
-    let clipped = stamp_clipped s t d.book a.c move source ok c.size-from.result c.pane_size-size.result c.in_ok-rule.rule c.clip-columns.result c.clip-rows.result
-    c.size-from.ensures c.pane_size-size.ensures c.in_ok-rule.ensures.1 (simp to_z-of_z at c.clip-columns.ensures) (simp to_z-of_z at c.clip-rows.ensures) in
+    let clipped = stamp_clipped s t d.book a.c move source ok c.size-from.result c.pane_size.result c.in_ok-rule.rule c.clip-clip.result.columns c.clip-clip.result.rows
+    c.size-from.ensures c.pane_size.ensures c.in_ok-rule.ensures.1 c.clip-clip.ensures.columns c.clip-clip.ensures.rows in
     record {
       does = stamp_does s t d.book a.c move source ok (g.S.Bitmap.picture c.stamp.new.screen) (g.T.Bitmap.picture c.stamp.new.store)
           ((simp (c.layer-layer.ensures.plan, c.layer-layer.ensures.slots, c.layer-layer.ensures.client) at c.stamp.ensures.drawn) move clipped (fitting s t d.book (stamp_fits s t d.book a.c move source ok))) c.stamp.result ((simp (c.layer-layer.ensures.plan, c.layer-layer.ensures.slots, c.layer-layer.ensures.client) at c.stamp.ensures.count) move clipped);
