@@ -50,7 +50,7 @@ impl fmt::Display for Call {
 }
 
 impl Call {
-    /// Performs the call: its answer as a number. That of top is the client + 1, or 0; that of slots, the slots in use.
+    /// Performs the call: its answer as a number, as the output has it. That of top is the client + 1, or 0; that of slots, the slots in use.
     pub(crate) fn perform<S: Bitmap, T: Bitmap>(
         self,
         desk: &mut Desk<S, T>,

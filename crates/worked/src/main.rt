@@ -22,7 +22,7 @@ impl fmt::Display for Answer {
     }
 }
 
-/// The pixels of row 0 as they are printed: a blank before each.
+/// The pixels of row 0 as they are printed: a blank before each. (`Row` of raster prints digits.)
 #[derive(Drop)]
 struct Pixels<'a, B>(&'a B);
 
