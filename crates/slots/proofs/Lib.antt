@@ -3,4 +3,5 @@ pub mod Spares
 pub mod Blocks
 pub mod Walks
 pub mod Changes
+pub mod Concerned
 pub mod Allotted
