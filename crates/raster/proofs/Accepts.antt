@@ -1,14 +1,13 @@
 -- When a call of a bitmap is refused, and what it answers and leaves then and otherwise.
-use Rattle.std.specs.Option.{ok_or, option_zip}
-use Rattle.std.proofs.Common.{◌≡◌, Bool, not, ◌&&◌, [], ◌∷◌, if◌then◌else◌, ℕ, ◌^◌, ◌<◌, true, false, ltb, leb, ℤ, pos, nat_abs, Some, None, Ok, Err, Option, Result, sym, refl, ◌∙◌, ⊎_elim, arith, rules}
+use Rattle.std.proofs.Common.{◌≡◌, Bool, ◌&&◌, if◌then◌else◌, ℕ, ◌^◌, ◌<◌, true, false, ltb, leb, ℤ, pos, nat_abs, Some, None, Ok, Err, Option, Result, sym, refl, ap, ◌∙◌, ⊎_elim, arith}
 use Rattle.std.proofs.lemmas.Option.{none-some}
 use Rattle.std.proofs.lemmas.Int.{ints}
-use Rattle.std.proofs.lemmas.Bool.{cases_Bool}
+use Rattle.std.proofs.lemmas.Bool.{cases_Bool, and_from, and_right}
 use Rattle.std.proofs.lemmas.Bool.Decides.{nat_tests}
 use Rattle.raster.specs.Picture.{Picture, sizes}
 use Rattle.raster.specs.Blt.{holds, inside}
 use Rattle.raster.specs.declared.transfer.Transfer.{Transfer}
-use Rattle.raster.specs.Calls.{BitmapCall, first_fault, refuse_if, read_at, write_at, fill_with, scroll_by, bitmap_fault, bitmap_value, bitmap_change, bitmap_answer, bitmap_after, row_concerned, any_below, concerns, fault, unless}
+use Rattle.raster.specs.Calls.{BitmapCall, read_at, write_at, fill_with, scroll_by, bitmap_fault, bitmap_value, bitmap_change, bitmap_answer, bitmap_after, row_concerned, any_below, concerns, fault, unless}
 use Rattle.raster.specs.declared.refusal.Refusal.TheVariants.{RuleAboveFifteen, ValueTooLarge, OutsideBitmap}
 use Rattle.raster.specs.declared.fault.Fault.{Fault}
 use Rattle.raster.specs.declared.size.Size.{Size}
@@ -56,16 +55,33 @@ module _ (s : Size) (t : Transfer) where
 
 -- the place of a read: both coordinates are below the bitmap's size, or the fault says so
 
-placed_by : (across down : Bool) (x y : ℕ) (f : Fault)
-    → ok_or (option_zip (if across then Some x else None) (if down then Some y else None)) f
-    ≡ unless (first_fault (refuse_if (not (across && down)) f ∷ [])) (x, y)
-placed_by across down x y f = search rules
+-- a coordinate that is below a size, and one that is not
+below_some : (there : Bool) (z a : ℕ) → Some a ≡ (if there then Some z else None) → (there ≡ true) × (a ≡ z)
+below_some true z a e = (refl, cc)
+below_some false z a e = absurd (none-some a (sym e))
 
-pub placed : (s : Size) (x y : ℤ)
-    → ok_or (option_zip (if holds (pos 0) s.width x then Some (nat_abs x) else None) (if holds (pos 0) s.height y then Some (nat_abs y) else None)) (fault OutsideBitmap x y)
-    ≡ unless (bitmap_fault s (read_at x y)) (nat_abs x, nat_abs y)
-unfolding bitmap_fault
-placed s x y = placed_by (holds (pos 0) s.width x) (holds (pos 0) s.height y) (nat_abs x) (nat_abs y) (fault OutsideBitmap x y)
+below_none : (there : Bool) (z : ℕ) → None ≡ (if there then Some z else None) → there ≡ false
+below_none true z e = absurd (none-some z e)
+below_none false z e = refl
+
+module _ (s : Size) (x y : ℤ) where
+  abbrev pub below_by : ℕ → ℤ → Option ℕ
+  below_by n z = if holds (pos 0) n z then Some (nat_abs z) else None
+
+  abbrev pub place_by : Result (ℕ × ℕ) Fault
+  place_by = unless (bitmap_fault s (read_at x y)) (nat_abs x, nat_abs y)
+
+  pub placed : (a b : ℕ) → Some a ≡ below_by s.width x → Some b ≡ below_by s.height y → Ok (a, b) ≡ place_by
+  placed a b e f =
+      let p = below_some (holds (pos 0) s.width x) (nat_abs x) a e in
+      let q = below_some (holds (pos 0) s.height y) (nat_abs y) b f in
+      rw (read_inside s x y (and_from _ _ p.0 q.0), p.1, q.1) refl
+
+  pub no_column : None ≡ below_by s.width x → Err (fault OutsideBitmap x y) ≡ place_by
+  no_column e = rw (read_outside s x y (ap (λ b. b && holds (pos 0) s.height y) (below_none (holds (pos 0) s.width x) (nat_abs x) e))) refl
+
+  pub no_row : None ≡ below_by s.height y → Err (fault OutsideBitmap x y) ≡ place_by
+  no_row e = rw (read_outside s x y (ap (λ b. holds (pos 0) s.width x && b) (below_none (holds (pos 0) s.height y) (nat_abs y) e) ∙ and_right _ _ refl)) refl
 
 -- a fault makes the answer, and leaves the picture
 

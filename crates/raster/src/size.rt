@@ -19,9 +19,10 @@ pub struct Size {
 pub fn below(z: i32, n: u16) -> Option<u16>
     ensures { result ≡ (if holds (pos 0) n z then Some (unsigned_abs z) else None) }
 {
-    match u16::try_from(z) {
-        Ok(z) if z < n => Some(z),
-        _ => None,
+    if 0 <= z && z < i32::from(n) {
+        Some(z as u16)
+    } else {
+        None
     }
 }
 
@@ -48,13 +49,17 @@ impl Size {
     pub fn read_place(self, x: i16, y: i16) -> Result<(u16, u16), Fault>
         ensures { result ≡ unless (bitmap_fault self (read_at x y)) (unsigned_abs x, unsigned_abs y) }
     {
-        below(i32::from(x), self.width)
-            .zip(below(i32::from(y), self.height))
-            .ok_or(Fault {
+        match (
+            below(i32::from(x), self.width),
+            below(i32::from(y), self.height),
+        ) {
+            (Some(column), Some(row)) => Ok((column, row)),
+            _ => Err(Fault {
                 refusal: Refusal::OutsideBitmap,
                 x,
                 y,
-            })
+            }),
+        }
     }
 
     /// The column and row of the pixel (x, y), for a write of the value `v`.
