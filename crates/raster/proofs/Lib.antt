@@ -6,3 +6,4 @@ pub mod Counts
 pub mod Prepared
 pub mod Called
 pub mod Lawful
+pub mod Printed

@@ -7,3 +7,4 @@ pub mod Blits
 pub mod Clip
 pub mod Laws
 pub mod Rows
+pub mod Printed
