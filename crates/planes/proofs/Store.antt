@@ -1,23 +1,58 @@
 -- Where the bits of pixels stand, and what storing a pixel changes.
-use Rattle.std.proofs.Common.{◌≡◌, ℕ, ◌+◌, ◌*◌, ◌/◌, ◌%◌, ◌^◌, ◌<◌, ◌≢◌, List, length, get_or, set, refl, sym, ap, ◌∙◌, ⊎_elim, add-mul, mod-eq_of_lt, arith}
+use Rattle.std.proofs.Common.{◌≡◌, ℕ, zero, suc, ◌≤◌, ◌+◌, ◌*◌, ◌/◌, ◌%◌, ◌^◌, ◌<◌, ◌≢◌, mul_comm, List, length, get_or, set, refl, sym, subst, ap, ◌∙◌, ⊎_elim, add-mul, mod-eq_of_lt, arith}
 use lib.Bits.{bit_and}
 use Rattle.std.proofs.lemmas.Bool.{cases_eq}
 use Rattle.std.proofs.lemmas.Bool.Decides.{nat_tests}
 use Rattle.std.proofs.lemmas.List.{length-set, get_or-set_same, get_or-set_other}
-use Rattle.std.proofs.lemmas.Nat.{div-mul-add, mod-mul-add, div_below}
+use Rattle.std.proofs.lemmas.Nat.{div-mul-add, mod-mul-add, div_below, mul-add-lt}
 use Rattle.std.proofs.lemmas.Nat.Bits.{bit_at-lt, shr_and_one}
 use Rattle.raster.specs.Rules.{bit}
 use Rattle.raster.specs.Picture.{painted, with_pixel}
 use Rattle.raster.specs.declared.size.Size.{Size}
 use Rattle.raster.proofs.Digits.{total_alike, total_more, bits_all}
 use Rattle.raster.proofs.Paints.{same_picture}
-use Rattle.planes.specs.Layout.{stride, word_of, bit_of, pixel, laid_out, Kept}
+use Rattle.planes.specs.Layout.{stride, word_of, bit_of, pixel, laid_out, Carried, Kept}
 
 -- the words of pixels
 
 pub by_rows : (w h j x y : ℕ) → word_of w h j x y ≡ (j * h + y) * stride w + x / 32
 unfolding word_of
 by_rows w h j x y = ap (λ n. n + x / 32) (sym (add-mul (j * h) y (stride w)))
+
+-- a word of a pixel is one that the list has
+pub word_below : (n : ℕ) (s : Size) (j x y : ℕ) → Carried n s → j < s.depth → x < s.width → y < s.height → word_of s.width s.height j x y < n
+word_below n s j x y carried lj lx ly =
+    let a : j * s.height + y < s.depth * s.height = omega (arith, mul-add-lt j s.height y s.depth lj ly, mul_comm s.height s.depth) in
+    let c : x / 32 < stride s.width = div_below x 32 (stride s.width) (omega arith) (omega arith) in
+    omega (
+      arith,
+      by_rows s.width s.height j x y,
+      mul-add-lt (j * s.height + y) (stride s.width) (x / 32) (s.depth * s.height) a c,
+      mul_comm (stride s.width) (s.depth * s.height),
+      carried,
+    )
+
+-- so is one by the size that the planes still have
+pub word_there : (n i : ℕ) (s now : Size) (j x y : ℕ) → now ≡ s → Carried n now → i ≡ word_of s.width s.height j x y → j < s.depth → x < s.width → y < s.height → i < n
+word_there n i s now j x y same carried e lj lx ly = omega (arith, e, word_below n s j x y (subst (λ z. Carried n z) same carried) lj lx ly)
+
+-- a plane is no longer than the list
+pub plane_below : (n : ℕ) (s : Size) → Carried n s → s.height * stride s.width ≤ n
+plane_below n s carried = omega (arith, most s.depth s.height (stride s.width) (omega arith), carried)
+  where
+    most : (d h w : ℕ) → 1 ≤ d → h * w ≤ d * h * w
+    most zero h w l = absurd (omega arith)
+    most (suc d) h w l = grind arith
+
+-- the word of the first plane
+pub word_first : (w h x y : ℕ) → y * stride w + x / 32 ≡ word_of w h 0 x y
+unfolding word_of
+word_first w h x y = grind arith
+
+-- the word of the next plane
+pub word_next : (w h j x y : ℕ) → word_of w h j x y + h * stride w ≡ word_of w h (j + 1) x y
+unfolding word_of
+word_next w h j x y = grind arith
 
 -- the parts of a word's index: its plane, its row, and its place in the row
 pub word_parts : (w h j x y i : ℕ) → x < w → y < h → i ≡ word_of w h j x y
@@ -36,7 +71,11 @@ word_apart w h j x y j' x' y' lx ly lx' ly' e =
     let q = word_parts w h j' x' y' (word_of w h j x y) lx' ly' e in
     (sym p.0 ∙ q.0, sym p.1 ∙ q.1, sym p.2 ∙ q.2)
 
--- a pixel that is read: one more plane
+-- a pixel that is read: no plane yet, and one more plane
+pub read_none : (words : List ℕ) (w h x y : ℕ) → 0 ≡ pixel words w h 0 x y
+unfolding pixel
+read_none words w h x y = refl
+
 abbrev pub ReadStep : List ℕ → (w h x y j v word : ℕ) → Type 0
 ReadStep words w h x y j v word =
     let next = v + (bit_and (word / 2 ^ bit_of x) 1 * 2 ^ j) % 256 in (next ≡ pixel words w h (j + 1) x y) × (next < 256)

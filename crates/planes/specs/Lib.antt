@@ -1,4 +1,5 @@
 pub mod Layout
 pub mod Means
+pub mod Lines
 pub mod Laws
 pub mod Keep

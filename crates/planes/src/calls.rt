@@ -23,12 +23,13 @@ impl Bitmap for Planes {
 
     fn read(&self, x: i16, y: i16) -> Result<u8, Fault> {
         let (column, row) = self.size.read_place(x, y)?;
-        Ok(self.get(column, row))
+        Ok(self.get(self.line(row), column))
     }
 
     fn write(&mut self, x: i16, y: i16, v: u8) -> Result<u32, Fault> {
         let (column, row) = self.size.write_place(x, y, v)?;
-        self.put(column, row, v);
+        let line = self.line(row);
+        self.put(line, column, v);
         Ok(0)
     }
 

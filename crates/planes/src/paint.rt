@@ -20,11 +20,13 @@ impl Planes {
         ensures after { picture_of self.new ≡ row_painted blit y sy (picture_of self.old) }
         ensures rest { PlanesKept self.old self.new }
     {
+        let from = self.line(sy);
+        let to = self.line(y);
         // By an index: the law of the order speaks of the turn's number (`turn` of raster/specs/Blits.antt), and both ends of the pair follow from it.
         for i in 0..blit.columns.len {
             let k = blit.columns.turn(i);
-            let s = self.sample(blit.ink, blit.columns.source + k, sy);
-            self.touch(blit.rule, s, blit.columns.first + k, y);
+            let s = self.sample(blit.ink, from, blit.columns.source + k);
+            self.touch(to, blit.rule, s, blit.columns.first + k);
         }
     }
 

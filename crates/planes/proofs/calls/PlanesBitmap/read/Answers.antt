@@ -18,7 +18,7 @@ get-requires c =
     let fx = c.ranges.x in
     let fy = c.ranges.y in
     let f = read_found (picture_of a.self.now) a.x a.y c.in_ok-column.column c.in_ok-column.row (simp to_z-of_z at c.in_ok-column.ensures) in
-    (f.across, f.down)
+    record { line = c.line.ensures.words; pixel = (f.across, rw c.line.ensures.row f.down) }
 
 pub returns : goal.returns
 returns c =
@@ -26,4 +26,4 @@ returns c =
     let fx = c.ranges.x in
     let fy = c.ranges.y in
     let f = read_found (picture_of a.self.now) a.x a.y c.in_ok-column.column c.in_ok-column.row (simp to_z-of_z at c.in_ok-column.ensures) in
-    f.answer c.get.result c.get.ensures
+    f.answer c.get.result (rw c.line.ensures.row at c.get.ensures)

@@ -20,7 +20,7 @@ put-requires c =
     let fx = c.ranges.x in
     let fy = c.ranges.y in
     let f = write_found (picture_of a.self.now) a.x a.y a.v c.in_ok-column.column c.in_ok-column.row (simp to_z-of_z at c.in_ok-column.ensures) in
-    record { pixel = (f.across, f.down); small = f.small }
+    record { line = c.line-line.ensures.words; pixel = (f.across, rw c.line-line.ensures.row f.down); small = f.small }
 
 pub returns : goal.returns
 returns c =
@@ -33,7 +33,7 @@ returns c =
     let f = write_found (picture_of s) a.x a.y a.v column row (simp to_z-of_z at c.in_ok-column.ensures) in
     record {
       answer = f.answer;
-      after = f.after (picture_of c.put.new.self) c.put.ensures.after;
+      after = f.after (picture_of c.put.new.self) (rw c.line-line.ensures.row at c.put.ensures.after);
       rest = c.put.ensures.rest;
       refused = tt;
     }
