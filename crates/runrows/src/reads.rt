@@ -1,10 +1,33 @@
 //! How the pixels of a row are read, whatever its entries hold.
-ghost use Rattle.std.specs.Prelude.{◌≡◌, ℕ, ◌+◌, ◌*◌, ◌/◌, ◌%◌, ◌^◌, ◌<◌, length, slice_index};
+ghost use Rattle.std.specs.Prelude.{◌≡◌, ℕ, ◌+◌, ◌*◌, ◌/◌, ◌%◌, ◌^◌, ◌<◌, ◌≤◌, min, length, slice_index};
 ghost use Rattle.runrows.specs.Runs.{row_entries};
 ghost use Rattle.runrows.specs.Means.{entries_of, picture_of};
 
 use crate::runrows::RunRows;
 use std::ops::Range;
+
+/// How many pixels a short run is filled with.
+const SHORT: usize = 8;
+
+/// Sets the `len` pixels of a run from `start` on, as far as the row goes, and tells where it ends. Pixels behind it may change: they are those of
+/// runs to come.
+// A short run is filled with a fixed number of pixels, where the row has as many: so it takes one store, and no loop is begun for it.
+fn fill_run(out: &mut [u8], start: usize, len: u16, value: u8) -> usize
+    requires { start ≤ length out.old }
+    ensures end { result ≡ min (start + len) (length out.old) }
+    ensures long { length out.new ≡ length out.old }
+    ensures before { (k : ℕ) → k < start → slice_index out.new k ≡ slice_index out.old k }
+    ensures run { (k : ℕ) → start ≤ k → k < result → slice_index out.new k ≡ value }
+{
+    let len = usize::from(len);
+    if len <= SHORT && out.len() - start >= SHORT {
+        out[start..start + SHORT].fill(value);
+        return start + len;
+    }
+    let end = (start + len).min(out.len());
+    out[start..end].fill(value);
+    end
+}
 
 // That a row is in the bitmap stays a precondition: it speaks of the row and of the bitmap together, so no type of either can carry it.
 impl RunRows {
@@ -31,7 +54,10 @@ impl RunRows {
         ensures long { result.0 ≡ entry / 16 }
         ensures value { result.1 ≡ entry % 16 % 2 ^ self.now.size.depth }
     {
-        (entry / 16, (entry % 16 % (1 << self.size.depth)) as u8)
+        (
+            entry / 16,
+            (entry % 16 & ((1 << self.size.depth) - 1)) as u8,
+        )
     }
 
     /// The pixel (x, y).
@@ -68,9 +94,7 @@ impl RunRows {
             if len == 0 {
                 break;
             }
-            let end = (start + usize::from(len)).min(out.len());
-            out[start..end].fill(value);
-            start = end;
+            start = fill_run(out, start, len, value);
         }
         out[start..].fill(0);
     }
