@@ -1,6 +1,6 @@
 -- Tables adjusted to a change, as a whole or where it can tell, are right for all patches.
 use Rattle.std.proofs.Common.{◌≡◌, ℕ, ◌+◌, ◌<◌, ◌≤◌, Bool, true, false, cond, not, ◌&&◌, ◌||◌, eqb, ltb, sym, refl, ap, ◌∙◌, ⊎_elim, arith, rules}
-use Rattle.std.specs.Prelude.{None, IfSome, Ok, Err, Result}
+use Rattle.std.specs.Prelude.{Some, None, Option, IfSome, Ok, Err, Result}
 use Rattle.std.proofs.lemmas.Bool.Decides.{nat_tests}
 use Rattle.std.proofs.lemmas.Bool.{and_from, and_parts, eq-eqb, or_left, or_right, or_cases}
 use Rattle.plan.specs.declared.change.Change.{Change}
@@ -12,7 +12,7 @@ use Rattle.plan.specs.Counts.{passing}
 use Rattle.plan.proofs.Patches.{any_of}
 use Rattle.slots.specs.declared.single.NoSlot.{NoSlot}
 use Rattle.slots.specs.declared.slots.Slots.{Slots}
-use Rattle.slots.specs.Allots.{Retained, Supplied}
+use Rattle.slots.specs.Allots.{Retained, Supplied, Allotted}
 use Rattle.slots.specs.Blocks.{in_row}
 use Rattle.slots.specs.Changes.{needed, Concerns}
 use Rattle.slots.specs.Tables.{has_slot, Fits}
@@ -52,6 +52,14 @@ module _ (test : ℕ → Bool) (t m : Slots) (a : Retained t test m) where
         counted_fewer (λ k. has_slot m k || test k) test 2400 (λ k l h.
             ⊎_elim (λ (x : has_slot m k ≡ true). (and_parts (test k) (has_slot t k) (sym (a.has k l) ∙ x)).0) (λ (x : test k ≡ true). x) (or_cases (has_slot m k) (test k) h)),
       )
+
+-- a table for the patches of a test is one for those of another, if it says the same of each
+pub allotted_alike : (f g : ℕ → Bool) (t : Slots) (r : Option Slots) → ((k : ℕ) → k < 2400 → f k ≡ g k) → Allotted t f r → Allotted t g r
+allotted_alike f g t None same a = let e = counted_alike f g 2400 same in omega arith
+allotted_alike f g t (Some r) same a = (
+  let few = a.0 in let e = counted_alike f g 2400 same in omega arith,
+  record { places = a.1.places; has = λ k l. a.1.has k l ∙ same k l; same = λ k l e u. a.1.same k l (same k l ∙ e) u },
+)
 
 -- where an arrangement stays, the patches in need are those hidden
 pub needs_still : (q : Plan) (k : ℕ) → needs q q None k ≡ hidden_patch q k

@@ -5,3 +5,4 @@ pub mod Walks
 pub mod Changes
 pub mod Concerned
 pub mod Allotted
+pub mod Marks

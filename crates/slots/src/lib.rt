@@ -7,5 +7,6 @@ mod slots;
 mod start;
 mod tables;
 mod walk;
+mod wanted;
 
 pub use slots::Slots;

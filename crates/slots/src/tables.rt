@@ -8,6 +8,7 @@ ghost use Rattle.slots.specs.Changes.{needed, Concerns};
 
 use crate::single::NoSlot;
 use crate::slots::Slots;
+use crate::wanted::{Marks, Wanted};
 use plan::{Change, Plan};
 use raster::Rectangle;
 
@@ -36,13 +37,13 @@ fn still(plan: &Plan) -> Change
 }
 
 impl Slots {
-    /// The table without the slots of patches that a change needs none for.
-    fn retained(&self, change: Change) -> Slots
-        ensures { Retained self.now (needed change.entry) result }
+    /// The table without the slots of patches that are to have none.
+    fn retained<W: Wanted>(&self, wanted: &W) -> Slots
+        ensures { Retained self.now (W.Wanted.wanted wanted.now) result }
     {
         let mut slots = *self;
         for patch in 0..2400 {
-            slots.retain_patch(change, patch);
+            slots.retain_patch(wanted, patch);
         }
         slots
     }
@@ -51,8 +52,9 @@ impl Slots {
     pub fn allot(&self, change: Change) -> Option<Slots>
         ensures { Allotted self.now (needed change.entry) result }
     {
-        let mut slots = self.retained(change);
-        match slots.adjust_range(change, 0, 2400) {
+        let marks = Marks::of(change); // slots are taken back and then granted, and a patch is asked once for both
+        let mut slots = self.retained(&marks);
+        match slots.adjust_range(&marks, 0, 2400) {
             Ok(()) => Some(slots),
             Err(NoSlot) => None,
         }
@@ -62,7 +64,7 @@ impl Slots {
     pub fn released(&self, plan: &Plan) -> Slots
         ensures { Retained self.now (hidden_patch plan.now) result }
     {
-        self.retained(still(plan))
+        self.retained(plan)
     }
 
     /// The table that `allot` makes, for a change of one client's layer alone: it looks only at the patches that can tell such a change.

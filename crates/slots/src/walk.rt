@@ -8,27 +8,28 @@ ghost use Rattle.slots.specs.Changes.{needed};
 use crate::block::{Block, patches_met};
 use crate::single::NoSlot;
 use crate::slots::Slots;
+use crate::wanted::Wanted;
 use plan::Change;
 use raster::Rectangle;
 
 // That patches are below 2,400 stays a precondition, as it does of a single slot: callers count through the table.
 impl Slots {
-    /// Takes the slot of a patch back, if it has one and needs none.
-    pub(crate) fn retain_patch(&mut self, change: Change, patch: u16)
+    /// Takes the slot of a patch back, if it has one and is to have none.
+    pub(crate) fn retain_patch<W: Wanted>(&mut self, wanted: &W, patch: u16)
         requires { patch < 2400 }
-        ensures { Retained self.old (λ k. needed change.entry k || not (nat_eq k patch)) self.new }
+        ensures { Retained self.old (λ k. W.Wanted.wanted wanted.now k || not (nat_eq k patch)) self.new }
     {
-        if self.slot(patch).is_some() && !change.needs(patch) {
+        if self.slot(patch).is_some() && !wanted.wants(patch) {
             self.give_back(patch);
         }
     }
 
-    /// Gives a patch a slot if it needs one, and takes its slot back if it needs none.
-    fn adjust_patch(&mut self, change: Change, patch: u16) -> Result<(), NoSlot>
+    /// Gives a patch a slot if it is to have one, and takes its slot back if it is to have none.
+    fn adjust_patch<W: Wanted>(&mut self, wanted: &W, patch: u16) -> Result<(), NoSlot>
         requires { patch < 2400 }
-        ensures { Adjusts (needed change.entry) (λ k. nat_eq k patch) self.old self.new result }
+        ensures { Adjusts (W.Wanted.wanted wanted.now) (λ k. nat_eq k patch) self.old self.new result }
     {
-        match (self.slot(patch).is_some(), change.needs(patch)) {
+        match (self.slot(patch).is_some(), wanted.wants(patch)) {
             (true, false) => self.give_back(patch),
             (false, true) => self.grant(patch)?,
             _ => {}
@@ -37,17 +38,17 @@ impl Slots {
     }
 
     /// Adjusts the slots of the `count` patches from `first` on.
-    pub(crate) fn adjust_range(
+    pub(crate) fn adjust_range<W: Wanted>(
         &mut self,
-        change: Change,
+        wanted: &W,
         first: u16,
         count: u16,
     ) -> Result<(), NoSlot>
         requires { first + count ≤ 2400 }
-        ensures { Adjusts (needed change.entry) (in_row first count) self.old self.new result }
+        ensures { Adjusts (W.Wanted.wanted wanted.now) (in_row first count) self.old self.new result }
     {
         for patch in first..first + count {
-            self.adjust_patch(change, patch)?;
+            self.adjust_patch(wanted, patch)?;
         }
         Ok(())
     }
@@ -57,7 +58,7 @@ impl Slots {
         ensures { Adjusts (needed change.entry) (in_block block.first block.columns block.rows) self.old self.new result }
     {
         for j in 0..block.rows {
-            self.adjust_range(change, block.first + 20 * j, block.columns)?;
+            self.adjust_range(&change, block.first + 20 * j, block.columns)?;
         }
         Ok(())
     }
