@@ -17,7 +17,7 @@ impl<S: Bitmap, T: Bitmap> Desk<S, T> {
         let passage = self.book.passage(c, after, Some(c))?;
         let old = self.book.plan.frame(c);
         let new = after.frame(c);
-        self.rearrange(passage, &[old, new]);
+        self.rearrange(&passage, &[old, new]);
         Ok(())
     }
 }

@@ -51,9 +51,9 @@ fn repaint_all<S: Bitmap, T: Bitmap>(
 
 impl<S: Bitmap, T: Bitmap> Desk<S, T> {
     /// Goes over to another arrangement: what shows in some areas is stowed, and the areas are repainted.
-    pub(crate) fn rearrange(&mut self, passage: Passage, areas: &[Rectangle])
-        ensures book { Settled passage.after passage.slots self.new.book }
-        ensures pixels { Rearranges self.old.book.plan passage.after passage.slots areas.now (S.Bitmap.picture self.old.screen) (T.Bitmap.picture self.old.store) (S.Bitmap.picture self.new.screen) (T.Bitmap.picture self.new.store) }
+    pub(crate) fn rearrange(&mut self, passage: &Passage, areas: &[Rectangle])
+        ensures book { Settled passage.now.after passage.now.slots self.new.book }
+        ensures pixels { Rearranges self.old.book.plan passage.now.after passage.now.slots areas.now (S.Bitmap.picture self.old.screen) (T.Bitmap.picture self.old.store) (S.Bitmap.picture self.new.screen) (T.Bitmap.picture self.new.store) }
         ensures rest { Keeps S.Bitmap T.Bitmap self.old self.new }
     {
         let Book { plan, .. } = &self.book;
@@ -73,7 +73,7 @@ impl<S: Bitmap, T: Bitmap> Desk<S, T> {
         self.check_open(c)?;
         let passage = self.book.passage(c, after, None)?;
         let area = self.book.plan.frame(c);
-        self.rearrange(passage, &[area]);
+        self.rearrange(&passage, &[area]);
         Ok(())
     }
 
@@ -101,7 +101,7 @@ impl<S: Bitmap, T: Bitmap> Desk<S, T> {
         let after = self.book.plan.closed(c);
         let slots = self.book.slots;
         let area = self.book.plan.frame(c);
-        self.rearrange(Passage { after, slots }, &[area]);
+        self.rearrange(&Passage { after, slots }, &[area]);
         Ok(())
     }
 }
