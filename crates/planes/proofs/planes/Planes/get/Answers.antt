@@ -29,8 +29,11 @@ overflow_add-v c =
     let deep = ap (λ (l : Line). l.depth) c.requires.line in
     let room = word_there (vec_len p.words) l.i p.size p.size l.j a.x a.line.row refl p.carried l.invariant.word (omega arith) c.requires.pixel.0 c.requires.pixel.1 in
     let word : c.index.result.now ≡ get_or (words_of p) l.i 0 = grind (arith, common_steps) in
-    omega (arith, read_more (words_of p) p.size.width p.size.height a.x a.line.row l.j l.v c.index.result.now (omega arith) l.invariant.value
-    (word ∙ ap (λ i. get_or (words_of p) i 0) l.invariant.word))
+    omega (
+      arith,
+      read_more (words_of p) p.size.width p.size.height a.x a.line.row l.j l.v c.index.result.now (omega arith) l.invariant.value
+          (word ∙ ap (λ i. get_or (words_of p) i 0) l.invariant.word),
+    )
 
 pub overflow_add-i-in-loop-j : goal.overflow_add-i-in-loop-j
 overflow_add-i-in-loop-j c =
@@ -53,5 +56,5 @@ loop-j-preserved c =
     record {
       word = ap₂ (λ i plane. i + plane) l.invariant.word (ap (λ (l : Line). l.plane) c.requires.line) ∙ word_next p.size.width p.size.height l.j a.x a.line.row;
       value = (read_more (words_of p) p.size.width p.size.height a.x a.line.row l.j l.v c.index.result.now (omega arith) l.invariant.value
-      (word ∙ ap (λ i. get_or (words_of p) i 0) l.invariant.word)).0;
+          (word ∙ ap (λ i. get_or (words_of p) i 0) l.invariant.word)).0;
     }
