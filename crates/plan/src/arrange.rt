@@ -15,11 +15,11 @@ impl Plan {
         ensures frames { SameFrames self.now result }
         ensures same { has c (listed self.now) ≡ false → result ≡ self.now }
     {
-        let Some(i) = self.position(c) else {
+        let Some(gone) = self.position(c) else {
             return *self;
         };
         let mut plan = *self;
-        plan.order[i..].rotate_left(1);
+        plan.order[gone..].rotate_left(1);
         plan.count -= 1;
         plan
     }
@@ -30,11 +30,11 @@ impl Plan {
         ensures frames { SameFrames self.now result }
         ensures same { has c (listed self.now) ≡ false → result ≡ self.now }
     {
-        let Some(i) = self.position(c) else {
+        let Some(old) = self.position(c) else {
             return *self;
         };
         let mut plan = *self;
-        plan.order[i..self.count as usize].rotate_left(1);
+        plan.order[old..self.count as usize].rotate_left(1);
         plan
     }
 

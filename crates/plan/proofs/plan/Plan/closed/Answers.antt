@@ -19,16 +19,16 @@ invariant_of-plan-clause-once c =
     let p = c.args.self.now in
     let k : length p.order ≡ 8 = search rules in
     let e = sym c.in-Some.is ∙ c.position.ensures in
-    ap distinct (closed_order p c.args.c c.in-Some.i e k c.rotate_left.new.self c.rotate_left.ensures.after) ∙ others_distinct c.args.c (listed p) p.once
+    ap distinct (closed_order p c.args.c c.in-Some.gone e k c.rotate_left.new.self c.rotate_left.ensures.after) ∙ others_distinct c.args.c (listed p) p.once
 
 pub returns-clause-arranged : goal.returns-clause-arranged
 returns-clause-arranged c =
     let p = c.args.self.now in
     let k : length p.order ≡ 8 = search rules in
     let e = sym c.in-Some.is ∙ c.position.ensures in
-    arranged p _ _ _ _ refl refl (closed_order p c.args.c c.in-Some.i e k c.rotate_left.new.self c.rotate_left.ensures.after)
+    arranged p _ _ _ _ refl refl (closed_order p c.args.c c.in-Some.gone e k c.rotate_left.new.self c.rotate_left.ensures.after)
     (sym (without_outlines c.args.c (listed p) p.frames)) (λ d. others_have c.args.c d (listed p))
 
 pub returns-clause-same : goal.returns-clause-same
 returns-clause-same c =
-    λ h. absurd (both_ways _ h (open_at c.args.self.now c.args.c c.in-Some.i (sym c.in-Some.is ∙ c.position.ensures)))
+    λ h. absurd (both_ways _ h (open_at c.args.self.now c.args.c c.in-Some.gone (sym c.in-Some.is ∙ c.position.ensures)))

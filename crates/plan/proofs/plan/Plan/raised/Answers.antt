@@ -19,7 +19,7 @@ invariant_of-plan-clause-once c =
     let p = c.args.self.now in
     let k : length p.order ≡ 8 = search rules in
     let e = sym c.in-Some.is ∙ c.position.ensures in
-    ap distinct (raised_order p c.args.c c.in-Some.i e k c.rotate_left.new.self c.rotate_left.ensures.after)
+    ap distinct (raised_order p c.args.c c.in-Some.old e k c.rotate_left.new.self c.rotate_left.ensures.after)
     ∙ distinct_last c.args.c _ (others_distinct c.args.c (listed p) p.once) (others_lack c.args.c (listed p))
 
 pub returns-clause-arranged : goal.returns-clause-arranged
@@ -27,9 +27,9 @@ returns-clause-arranged c =
     let p = c.args.self.now in
     let k : length p.order ≡ 8 = search rules in
     let e = sym c.in-Some.is ∙ c.position.ensures in
-    arranged p _ _ _ _ refl refl (raised_order p c.args.c c.in-Some.i e k c.rotate_left.new.self c.rotate_left.ensures.after)
-    (raised_one c.args.c (listed p) p.frames p.once (open_at p c.args.c c.in-Some.i e)) (λ d. has_raised c.args.c d (listed p) (open_at p c.args.c c.in-Some.i e))
+    arranged p _ _ _ _ refl refl (raised_order p c.args.c c.in-Some.old e k c.rotate_left.new.self c.rotate_left.ensures.after)
+    (raised_one c.args.c (listed p) p.frames p.once (open_at p c.args.c c.in-Some.old e)) (λ d. has_raised c.args.c d (listed p) (open_at p c.args.c c.in-Some.old e))
 
 pub returns-clause-same : goal.returns-clause-same
 returns-clause-same c =
-    λ h. absurd (both_ways _ h (open_at c.args.self.now c.args.c c.in-Some.i (sym c.in-Some.is ∙ c.position.ensures)))
+    λ h. absurd (both_ways _ h (open_at c.args.self.now c.args.c c.in-Some.old (sym c.in-Some.is ∙ c.position.ensures)))
