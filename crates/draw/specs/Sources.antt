@@ -26,6 +26,10 @@ row_blended rule source columns y sy p = painted p (λ x z. spans columns x && z
 unfoldable pub all_blended : (rule : ℕ) (source : Pixel) (columns rows : Span) → Picture → Picture
 all_blended rule source columns rows p = painted p (λ x z. spans columns x && spans rows z) (λ x z. blended rule source columns p (opposite rows z) x z)
 
+-- The places of a span, as their own source.
+abbrev pub in_place : Span → Span
+in_place s = record s { source = s.first }
+
 -- Each place that a row of columns is read from is one of some places; and each that columns and rows are read from.
 abbrev pub ReadsRow : (places : ℕ → ℕ → Type 0) (columns : Span) (sy : ℕ) → Type 0
 ReadsRow places columns sy = (i : ℕ) → i < columns.len → places (columns.source + i) sy

@@ -6,12 +6,13 @@ ghost use Rattle.raster.specs.declared.transfer.Transfer.{Transfer};
 ghost use Rattle.raster.specs.Blits.{performed};
 ghost use Rattle.hold.specs.Bitmaps.{layer_on, Draws, Drawing};
 ghost use Rattle.draw.specs.Areas.{BlitWithin};
+ghost use Rattle.draw.specs.Sources.{in_place};
 ghost use Rattle.draw.specs.Stamps.{Stamps};
 
 use crate::blending::blend;
-use crate::source::Other;
+use crate::source::Laid;
 use hold::Layer;
-use raster::{Bitmap, Blit, Clip, Rule};
+use raster::{Bitmap, Blit, Clip, Rule, Span};
 
 /// Performs a blit on a layer.
 pub fn paint<S: Bitmap, T: Bitmap>(screen: &mut S, store: &mut T, layer: Layer<'_>, blit: Blit)
@@ -24,6 +25,16 @@ pub fn paint<S: Bitmap, T: Bitmap>(screen: &mut S, store: &mut T, layer: Layer<'
         rows,
     } = blit;
     blend(screen, store, layer, &ink, rule, Clip { columns, rows });
+}
+
+/// The places of a span, as their own source.
+fn in_place(span: Span) -> Span
+    ensures { result ≡ in_place span }
+{
+    Span {
+        source: span.first,
+        ..span
+    }
 }
 
 /// Stamps another bitmap on a layer: the rest of a BitBlt that is clipped; the count of pixels concerned.
@@ -40,6 +51,16 @@ pub fn stamp<S: Bitmap, T: Bitmap, B: Bitmap>(
     ensures screen { S.Bitmap.keeps screen.old screen.new }
     ensures store { T.Bitmap.keeps store.old store.new }
 {
-    blend(screen, store, layer, &Other(source), rule, clip);
+    let Clip { columns, rows } = clip;
+    let laid = Laid {
+        bitmap: source,
+        columns,
+        rows,
+    };
+    let places = Clip {
+        columns: in_place(columns),
+        rows: in_place(rows),
+    };
+    blend(screen, store, layer, &laid, rule, places);
     clip.count()
 }

@@ -1,12 +1,12 @@
 //! Where the pixels come from that those of a layer are combined with.
-ghost use Rattle.std.specs.Prelude.{◌≡◌, ℕ, refl};
-ghost use Rattle.raster.specs.Blits.{inked};
+ghost use Rattle.std.specs.Prelude.{◌≡◌, ℕ, min, refl};
+ghost use Rattle.raster.specs.Blits.{inked, opposite};
 ghost use Rattle.hold.specs.declared.layer.Layer.{Layer};
 ghost use Rattle.hold.specs.Bitmaps.{HasPixel, Suits, layer_on};
 ghost use Rattle.draw.specs.Sources.{Pixel, Kept, ink_kept};
 
 use hold::{Layer, pixel};
-use raster::{Bitmap, Ink};
+use raster::{Bitmap, Ink, Span};
 
 /// A source of pixels: the ink of a blit, or another bitmap.
 pub(crate) trait Source {
@@ -53,12 +53,24 @@ impl Source for Ink {
     }
 }
 
-/// Another bitmap as a source.
-#[derive(Drop)]
-pub(crate) struct Other<'a, B>(pub &'a B);
+/// The place opposite in a span; 65,535 if it is past that, where no bitmap has a pixel either.
+fn opposite(span: Span, x: u16) -> u16
+    ensures { result ≡ min (opposite span x) 65535 }
+{
+    x.saturating_sub(span.first).saturating_add(span.source)
+}
 
-impl<B: Bitmap> Source for Other<'_, B> {
-    ghost pixel = { λ other _ x y. (B.Bitmap.picture other.0.now).at x y };
+/// Another bitmap as a source, laid where it is stamped: each place has the pixel opposite in these columns and rows.
+// So places and sources are one, and a stamp goes from left to right and from top to bottom, wherever it comes from.
+#[derive(Drop)]
+pub(crate) struct Laid<'a, B> {
+    pub bitmap: &'a B,
+    pub columns: Span,
+    pub rows: Span,
+}
+
+impl<B: Bitmap> Source for Laid<'_, B> {
+    ghost pixel = { λ laid _ x y. (B.Bitmap.picture laid.bitmap.now).at (opposite laid.columns x) (opposite laid.rows y) };
 
     ghost places = { λ _ _ _ _. Unit {0} };
 
@@ -72,6 +84,10 @@ impl<B: Bitmap> Source for Other<'_, B> {
         x: u16,
         y: u16,
     ) -> u8 {
-        pixel(self.0, x, y)
+        pixel(
+            self.bitmap,
+            opposite(self.columns, x),
+            opposite(self.rows, y),
+        )
     }
 }
